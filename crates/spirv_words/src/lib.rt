@@ -1,0 +1,11 @@
+//! SPIR-V images as instructions, the words that spell them, and what the words do: one step of an instruction, and
+//! the run of an image for one invocation. The definitions are those of SPIR-V 1.5, cut to the opcodes of this profile.
+#![tactic(auto)]
+
+mod images;
+mod opcodes;
+mod writing;
+
+pub use images::{Image, Instruction};
+pub use opcodes::Op;
+pub use writing::write;
