@@ -1,0 +1,6 @@
+//! The shaders of the first form: one buffer of words, and one entry whose statements write sums into it.
+#![tactic(auto)]
+
+mod shader;
+
+pub use shader::{GroupSize, Item, Shader, Statement, Sum};
