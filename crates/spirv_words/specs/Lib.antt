@@ -1,6 +1,7 @@
 pub mod Opcodes
-pub mod Words
 pub mod Layouts
+pub mod Words
+pub mod Strings
 pub mod Machine
 pub mod Step
 pub mod Runs

@@ -1,0 +1,4 @@
+pub mod Source
+pub mod Templates
+pub mod Sections
+pub mod Image

@@ -1,0 +1,6 @@
+//! What a shader of the first form means, the image of it, and that the image's words do what the shader means.
+#![tactic(auto)]
+
+mod laws;
+
+pub use laws::words_mean_source;
