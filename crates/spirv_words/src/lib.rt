@@ -4,8 +4,10 @@
 
 mod images;
 mod opcodes;
+mod strings;
 mod writing;
 
 pub use images::{Image, Instruction};
 pub use opcodes::Op;
+pub use strings::{string_is_read, string_is_short, string_words};
 pub use writing::write;

@@ -1,0 +1,5 @@
+use Rattle.spirv_words.proofs.Spelled.{length-string_words}
+use Rattle.spirv_words.proofs.strings.string_is_short.Goals as goal
+
+pub returns : goal.returns
+returns c = length-string_words
