@@ -1,6 +1,8 @@
 //! What a shader of the first form means, the image of it, and that the image's words do what the shader means.
 #![tactic(auto)]
 
+mod constants;
 mod laws;
+mod output;
 
 pub use laws::words_mean_source;
