@@ -1,2 +1,4 @@
 pub mod Worked
 pub mod ConstantLists
+pub mod Positions
+pub mod BodyCode
