@@ -6,5 +6,6 @@ mod constants;
 mod ids;
 mod laws;
 mod output;
+mod sections;
 
 pub use laws::words_mean_source;
