@@ -1,9 +1,10 @@
 -- What the emitter's types stand for.
-use Rattle.std.specs.Prelude.{ℕ, ◌+◌, ◌*◌, ◌≤◌, List, [], ◌∷◌, ◌++◌, length}
+use Rattle.std.specs.Prelude.{ℕ, ◌+◌, ◌≤◌, List, [], ◌∷◌, ◌++◌, length}
+use Rattle.spirv_words.specs.declared.opcodes.Op.TheVariants.{Decorate, MemberDecorate, Function, FunctionEnd, Label, Variable, Load, Store, Return}
+use Rattle.spirv_words.specs.declared.images.Instruction.{Instruction}
 use Rattle.first_form.specs.declared.shader.Statement.{Statement}
-use Rattle.first_form.specs.declared.shader.Sum.{Sum}
 use Rattle.first_image.specs.declared.output.Output.{Output}
-use Rattle.first_image.specs.Templates.{Tables, Code, Piece}
+use Rattle.first_image.specs.Templates.{ins, Tables, Code, Piece}
 use Rattle.first_image.specs.Image.{position}
 
 -- ---- the ids, from the constants
@@ -48,6 +49,17 @@ pub record IsShort (s : Statement) : Type 0 where
   pub index : length s.index.rest ≤ 31
   pub value : length s.value.rest ≤ 31
 
--- the ids that an item, a sum or a statement takes at most
-abbrev pub sum_ids : Sum → ℕ
-sum_ids s = 2 + 3 * length s.rest
+-- ---- parts of sections
+
+abbrev pub decorations : ℕ → ℕ → List Instruction
+decorations a b =
+    ins Decorate (a ∷ 6 ∷ 4 ∷ []) ∷ ins Decorate ((a + 1) ∷ 2 ∷ []) ∷ ins MemberDecorate ((a + 1) ∷ 0 ∷ 35 ∷ 0 ∷ []) ∷
+    ins Decorate (b ∷ 34 ∷ 0 ∷ []) ∷ ins Decorate (b ∷ 33 ∷ 0 ∷ []) ∷ ins Decorate ((b + 1) ∷ 11 ∷ 28 ∷ []) ∷ []
+
+abbrev pub entry_start : ℕ → ℕ → ℕ → List Instruction
+entry_start n b e =
+    ins Function (1 ∷ e ∷ 0 ∷ (n + 16) ∷ []) ∷ ins Label ((e + 1) ∷ []) ∷ ins Variable ((n + 7) ∷ (e + 2) ∷ 7 ∷ []) ∷
+    ins Load (9 ∷ (e + 3) ∷ (b + 1) ∷ []) ∷ ins Store ((e + 2) ∷ (e + 3) ∷ []) ∷ []
+
+abbrev pub entry_end : List Instruction
+entry_end = ins Return [] ∷ ins FunctionEnd [] ∷ []

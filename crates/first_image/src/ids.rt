@@ -1,9 +1,14 @@
 // The ids of what stands before the statements of an entry.
 
-ghost use Rattle.std.specs.Prelude.{◌≡◌, ◌+◌, ◌*◌, ◌^◌, ◌<◌, ◌≤◌, length, IfOk};
+ghost use Rattle.std.specs.Prelude.{◌≡◌, ◌+◌, ◌*◌, ◌^◌, ◌<◌, ◌≤◌, [], length, IfOk};
+ghost use Rattle.std.specs.List.{AllByRecursion};
 ghost use Rattle.std.specs.List.Sorted.{IsStrictlyIncreasing};
-ghost use Rattle.first_image.specs.Image.{position};
-ghost use Rattle.first_image.specs.Emitted.{array_at, pointers_at, nulls_at, buffer_at, entry_at, tables_at};
+ghost use Rattle.first_image.specs.Image.{position, statements_constants};
+ghost use Rattle.first_image.specs.Emitted.{array_at, pointers_at, nulls_at, buffer_at, entry_at, tables_at, IsShort};
+
+use crate::constants::constants_of;
+use first_form::Statement;
+use std::alloc::{AllocError, Global};
 
 /// The constants, ascending and each once; the ids of an image follow from them.
 #[derive(Drop)]
@@ -14,6 +19,16 @@ pub struct Ids {
 }
 
 impl Ids {
+    /// The ids of an image whose entry has these statements.
+    pub fn of(alloc: Global, statements: &[Statement]) -> Result<Ids, AllocError>
+        requires short { AllByRecursion IsShort statements.now }
+        requires few { length statements.now < 2 ^ 20 }
+        ensures { IfOk result (λ ids. ids.numbers.items ≡ statements_constants statements.now []) }
+    {
+        let numbers = constants_of(alloc, statements)?;
+        Ok(Ids { numbers })
+    }
+
     /// The id of a constant.
     pub fn constant(&self, number: u32) -> u32
         ensures { result ≡ 13 + position number self.now.numbers.items }

@@ -3,6 +3,7 @@
 
 mod body;
 mod constants;
+mod emit;
 mod ids;
 mod laws;
 mod output;
