@@ -2,5 +2,9 @@
 #![tactic(auto)]
 
 mod shader;
+mod stop;
+mod tokens;
+mod words;
 
 pub use shader::{GroupSize, Item, Shader, Statement, Sum};
+pub use words::is_reserved;
