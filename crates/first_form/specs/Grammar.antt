@@ -18,7 +18,7 @@ use Rattle.first_form.specs.declared.shader.Item.TheVariants.{Number, X}
 use Rattle.first_form.specs.Tokens.{Token, Word, Mark, Text, IsCut}
 use Rattle.first_form.specs.Shaders.{IsShader}
 
--- `[`, `]` and the like, by their byte
+-- marks by their bytes: `+` 43, `,` 44, `.` 46, `:` 58, `;` 59, `<` 60, `=` 61, `>` 62, `[` 91, `]` 93, `{` 123, `}` 125
 abbrev pub comma : List Token
 comma = Mark 44 ∷ []
 
@@ -46,20 +46,36 @@ closing = Mark 125 ∷ []
 abbrev pub number : ℕ → List Token
 number n = Word (decimal n) ∷ []
 
+-- behind the parameter: its first component
+abbrev pub component : List Token
+component = Mark 46 ∷ Word (codes "x") ∷ []
+
 abbrev pub item_tokens : List ℕ → Item → List Token
 item_tokens parameter (Number n) = Word (decimal n ++ codes "u") ∷ []
-item_tokens parameter X = Word parameter ∷ Mark 46 ∷ Word (codes "x") ∷ []
+item_tokens parameter X = Word parameter ∷ component
 
--- `+` and an item
+abbrev pub plus : List Token
+plus = Mark 43 ∷ []
+
+-- a `+` and an item
 abbrev pub term_tokens : List ℕ → Item → List Token
-term_tokens parameter item = Mark 43 ∷ item_tokens parameter item
+term_tokens parameter item = plus ++ item_tokens parameter item
 
 abbrev pub sum_tokens : List ℕ → Sum → List Token
 sum_tokens parameter sum = item_tokens parameter sum.first ++ flat_map (term_tokens parameter) sum.rest
 
+abbrev pub before_index : List ℕ → List Token
+before_index buffer = Word buffer ∷ Mark 91 ∷ []
+
+abbrev pub before_value : List Token
+before_value = Mark 93 ∷ Mark 61 ∷ []
+
+abbrev pub after_value : List Token
+after_value = Mark 59 ∷ []
+
 abbrev pub statement_tokens : List ℕ → List ℕ → Statement → List Token
 statement_tokens buffer parameter s =
-    (Word buffer ∷ Mark 91 ∷ []) ++ (sum_tokens parameter s.index ++ ((Mark 93 ∷ Mark 61 ∷ []) ++ (sum_tokens parameter s.value ++ (Mark 59 ∷ []))))
+    before_index buffer ++ (sum_tokens parameter s.index ++ (before_value ++ (sum_tokens parameter s.value ++ after_value)))
 
 unfoldable pub tokens_of : Shader → List Token
 tokens_of s =

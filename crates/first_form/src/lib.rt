@@ -1,6 +1,8 @@
 //! The shaders of the first form: one buffer of words, and one entry whose statements write sums into it.
 #![tactic(auto)]
 
+mod grammar;
+mod numbers;
 mod shader;
 mod stop;
 mod tokens;

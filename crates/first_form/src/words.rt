@@ -212,7 +212,8 @@ fn is_letter(b: u8) -> bool
     (b >= 65 && b <= 90) || (b >= 97 && b <= 122) || b == 95
 }
 
-fn is_digit(b: u8) -> bool
+/// Whether it is a decimal digit.
+pub fn is_digit(b: u8) -> bool
     ensures { result ≡ spec.is_digit b }
 {
     b >= 48 && b <= 57
