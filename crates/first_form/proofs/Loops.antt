@@ -9,7 +9,7 @@ use Rattle.first_form.specs.declared.shader.Item.{Item}
 use Rattle.first_form.specs.declared.shader.Statement.{Statement}
 use Rattle.first_form.specs.Lexemes.{token}
 use Rattle.first_form.specs.Grammar.{plus, closing}
-use Rattle.first_form.specs.Reading.{◌>>=◌, Finds, Gives, if_there, next, expect, item_at, terms_at, statement_at, statements_at}
+use Rattle.first_form.specs.Reading.{◌>>=◌, Finds, Fails, Gives, if_there, next, expect, item_at, terms_at, statement_at, statements_at}
 
 -- where no token stands, none of those that are left is there
 pub expect_none : (tokens : List Lexeme) (i : ℕ) (rest : List ℕ) (total : Option (List ℕ)) → i < length tokens → next rest ≡ None
@@ -89,3 +89,8 @@ pub gives_none : {X Y : Type 0} (view : X → Y) (r : Result X Stop) (read : Opt
 gives_none view (Ok x) read h e = absurd (false≢true h)
 gives_none view (Err (stop.Memory m)) read h e = tt
 gives_none view (Err stop.Form) read h e = e
+
+-- a failure is passed on, where nothing is read then
+pub fails_on : {Y Z : Type 0} (e : Stop) (here : Option Y) (total : Option Z) → Fails e here → (here ≡ None → total ≡ None) → Fails e total
+fails_on (stop.Memory m) here total h f = tt
+fails_on stop.Form here total h f = f h

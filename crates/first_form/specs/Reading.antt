@@ -174,9 +174,6 @@ pub record Head : Type 0 where
 abbrev pub are_different : Head → Bool
 are_different h = not (bytes_eq h.buffer h.entry) && not (bytes_eq h.buffer h.parameter) && not (bytes_eq h.entry h.parameter)
 
-abbrev pub if_different : Head → List ℕ → Option (Head × List ℕ)
-if_different h rest = if are_different h then Some (h, rest) else None
-
 unfoldable pub head_at : List ℕ → Option (Head × List ℕ)
 head_at text = do
   t ← expect before_buffer text
@@ -188,7 +185,8 @@ head_at text = do
   t''' ← expect before_parameter entry.1
   parameter ← name_at t'''
   t'''' ← expect before_statements parameter.1
-  if_different (record { buffer = buffer.0; entry = entry.0; parameter = parameter.0; group = group.0 }) t''''
+  let h : Head = record { buffer = buffer.0; entry = entry.0; parameter = parameter.0; group = group.0 }
+  if are_different h then Some (h, t'''') else None
 
 abbrev pub shader_of : Head → List Statement → Shader
 shader_of h list = record { buffer = h.buffer; entry = h.entry; parameter = h.parameter; group = h.group; statements = list }

@@ -3,10 +3,12 @@
 
 mod grammar;
 mod numbers;
+mod reading;
 mod shader;
 mod stop;
 mod tokens;
 mod words;
 
+pub use reading::read_shader;
 pub use shader::{GroupSize, Item, Shader, Statement, Sum};
 pub use words::is_reserved;
