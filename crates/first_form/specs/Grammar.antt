@@ -11,6 +11,7 @@ use Rattle.std.specs.Prelude.{ℕ, ◌+◌, List, [], ◌∷◌, ◌++◌, codes
 use Rattle.std.specs.Fmt.{decimal}
 use Rattle.std.specs.List.{flat_map}
 use Rattle.first_form.specs.declared.shader.Shader.{Shader}
+use Rattle.first_form.specs.declared.shader.GroupSize.{GroupSize}
 use Rattle.first_form.specs.declared.shader.Statement.{Statement}
 use Rattle.first_form.specs.declared.shader.Sum.{Sum}
 use Rattle.first_form.specs.declared.shader.Item.{Item}
@@ -46,6 +47,9 @@ closing = Mark 125 ∷ []
 abbrev pub number : ℕ → List Token
 number n = Word (decimal n) ∷ []
 
+abbrev pub group_tokens : GroupSize → List Token
+group_tokens g = number g.x ++ (comma ++ (number g.y ++ (comma ++ number g.z)))
+
 -- behind the parameter: its first component
 abbrev pub component : List Token
 component = Mark 46 ∷ Word (codes "x") ∷ []
@@ -79,9 +83,9 @@ statement_tokens buffer parameter s =
 
 unfoldable pub tokens_of : Shader → List Token
 tokens_of s =
-    before_buffer ++ (Word s.buffer ∷ [] ++ (before_group ++ (number s.group.x ++ (comma ++ (number s.group.y ++ (comma ++ (number s.group.z
-    ++ (before_entry ++ (Word s.entry ∷ [] ++ (before_parameter ++ (Word s.parameter ∷ [] ++ (before_statements
-    ++ (flat_map (statement_tokens s.buffer s.parameter) s.statements ++ closing)))))))))))))
+    before_buffer ++ (Word s.buffer ∷ [] ++ (before_group ++ (group_tokens s.group ++ (before_entry ++ (Word s.entry ∷ []
+    ++ (before_parameter ++ (Word s.parameter ∷ [] ++ (before_statements
+    ++ (flat_map (statement_tokens s.buffer s.parameter) s.statements ++ closing)))))))))
 
 -- the text is of the first form, and says this shader
 pub record FirstForm (text : List ℕ) (shader : Shader) : Type 0 where

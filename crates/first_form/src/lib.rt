@@ -12,3 +12,6 @@ mod words;
 pub use reading::read_shader;
 pub use shader::{GroupSize, Item, Shader, Statement, Sum};
 pub use words::is_reserved;
+
+#[cfg(test)]
+mod tests;
