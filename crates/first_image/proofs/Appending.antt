@@ -31,3 +31,6 @@ constants_turn ks i d o m n lt p q =
     ∙ ap (λ x. o ++ (constants_code 13 (take i ks) ++ ins Constant (4 ∷ (13 + x) ∷ get_or ks i d ∷ []) ∷ [])) (sym e)
     ∙ ap (λ x. o ++ x) (sym (constants_code-push 13 (take i ks) (get_or ks i d)))
     ∙ ap (λ x. o ++ constants_code 13 x) (sym (take_at_read ks i d lt).1)
+
+pub regroup_seven : (a b c d e f g : List Instruction) → (((((a ++ b) ++ c) ++ d) ++ e) ++ f) ++ g ≡ a ++ (b ++ (c ++ (d ++ (e ++ (f ++ g)))))
+regroup_seven a b c d e f g = simp append_assoc

@@ -10,7 +10,7 @@ use Rattle.first_form.specs.declared.shader.Statement.{Statement}
 use Rattle.first_form.specs.declared.shader.Sum.{Sum}
 use Rattle.first_form.specs.declared.shader.Item.{Item}
 use Rattle.first_form.specs.declared.shader.Item.TheVariants.{Number, X}
-use Rattle.first_image.specs.Emitted.{IsShort}
+use Rattle.first_form.specs.Shaders.{IsStatement}
 use Rattle.first_image.specs.Image.{insert, item_constants, items_constants, sum_constants, statement_constants, statements_constants}
 
 step : (n k : ℕ) (ks : List ℕ) → insert_key nat_cmp ks n ≡ insert n ks → insert_key nat_cmp (k ∷ ks) n ≡ insert n (k ∷ ks)
@@ -55,10 +55,10 @@ length-items (i ∷ is) ks = omega (arith, length-item i (items_constants is ks)
 length-sum : (s : Sum) (ks : List ℕ) → length (sum_constants s ks) ≤ length ks + length s.rest + 1
 length-sum s ks = omega (arith, length-item s.first (items_constants s.rest ks), length-items s.rest ks)
 
-length-statement : (s : Statement) (ks : List ℕ) → IsShort s → length (statement_constants s ks) ≤ length ks + 65
+length-statement : (s : Statement) (ks : List ℕ) → IsStatement s → length (statement_constants s ks) ≤ length ks + 65
 length-statement s ks short =
-    omega (arith, length-insert 0 (sum_constants s.index (sum_constants s.value ks)), length-sum s.index (sum_constants s.value ks), length-sum s.value ks, short.index, short.value)
+    omega (arith, length-insert 0 (sum_constants s.index (sum_constants s.value ks)), length-sum s.index (sum_constants s.value ks), length-sum s.value ks, short.index.most, short.value.most)
 
-pub length-constants : (ss : List Statement) → AllByRecursion IsShort ss → length (statements_constants ss []) ≤ 65 * length ss
+pub length-constants : (ss : List Statement) → AllByRecursion IsStatement ss → length (statements_constants ss []) ≤ 65 * length ss
 length-constants [] short = omega arith
 length-constants (s ∷ ss) short = omega (arith, length-statement s (statements_constants ss []) short.0, length-constants ss short.1)

@@ -3,3 +3,5 @@ pub mod ConstantLists
 pub mod Positions
 pub mod BodyCode
 pub mod Appending
+pub mod SpelledImages
+pub mod WholeImages

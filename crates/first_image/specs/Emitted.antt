@@ -1,11 +1,15 @@
 -- What the emitter's types stand for.
-use Rattle.std.specs.Prelude.{ℕ, ◌+◌, ◌≤◌, List, [], ◌∷◌, ◌++◌, length}
-use Rattle.spirv_words.specs.declared.opcodes.Op.TheVariants.{Decorate, MemberDecorate, Function, FunctionEnd, Label, Variable, Load, Store, Return}
+use Rattle.std.specs.Prelude.{ℕ, ◌+◌, List, [], ◌∷◌, ◌++◌, length}
+use Rattle.spirv_words.specs.declared.opcodes.Op.TheVariants.{Name, EntryPoint, ExecutionMode, Decorate, MemberDecorate, Function, FunctionEnd, Label, Variable, Load, Store, Return}
 use Rattle.spirv_words.specs.declared.images.Instruction.{Instruction}
+use Rattle.spirv_words.specs.declared.images.Image.{Image}
+use Rattle.spirv_words.specs.Strings.{string_words}
+use Rattle.first_form.specs.declared.shader.Shader.{Shader}
 use Rattle.first_form.specs.declared.shader.Statement.{Statement}
 use Rattle.first_image.specs.declared.output.Output.{Output}
-use Rattle.first_image.specs.Templates.{ins, Tables, Code, Piece}
-use Rattle.first_image.specs.Image.{position}
+use Rattle.first_image.specs.Templates.{ins, Tables, Code, Piece, statements_code}
+use Rattle.first_image.specs.Image.{position, qualified, buffer_types, more_types, variables}
+use Rattle.first_image.specs.Sections.{plain_types, constants_code, pointer_types, nulls}
 
 -- ---- the ids, from the constants
 
@@ -42,13 +46,6 @@ emitted_piece o p = record { instructions = o.instructions ++ p.instructions; ne
 abbrev pub known : ℕ → ℕ → ℕ → Code
 known value id temp = record { instructions = []; value = value; id = id; temp = temp }
 
--- ---- what the emitter needs of a shader
-
--- both sums have at most 32 items
-pub record IsShort (s : Statement) : Type 0 where
-  pub index : length s.index.rest ≤ 31
-  pub value : length s.value.rest ≤ 31
-
 -- ---- parts of sections
 
 abbrev pub decorations : ℕ → ℕ → List Instruction
@@ -63,3 +60,25 @@ entry_start n b e =
 
 abbrev pub entry_end : List Instruction
 entry_end = ins Return [] ∷ ins FunctionEnd [] ∷ []
+
+-- the image of what stands before an entry, and an entry with these statements
+abbrev pub image_with : List ℕ → List Instruction → List Statement → Image
+image_with ks before ss =
+    let body = statements_code (tables_at ks) ss (entry_at ks + 4) 0 in
+    record { bound = body.id; instructions = before ++ (entry_start (pointers_at ks) (buffer_at ks) (entry_at ks) ++ (body.instructions ++ entry_end)) }
+
+-- the preamble
+abbrev pub preamble_at : List ℕ → List ℕ → Shader → List Instruction
+preamble_at ks home p =
+    let b = buffer_at ks in
+    let e = entry_at ks in
+    ins EntryPoint (5 ∷ e ∷ (string_words p.entry ++ b ∷ (b + 1) ∷ [])) ∷
+    ins ExecutionMode (e ∷ 17 ∷ p.group.x ∷ p.group.y ∷ p.group.z ∷ []) ∷
+    ins Name (b ∷ string_words (qualified home p.buffer)) ∷ ins Name (e ∷ string_words (qualified home p.entry)) ∷
+    decorations (array_at ks) b
+
+-- the types, constants and variables
+abbrev pub declared_at : List ℕ → List Instruction
+declared_at ks =
+    plain_types ++ (constants_code 13 ks ++ (buffer_types (array_at ks) ++ (pointer_types (pointers_at ks) ++
+    (more_types (array_at ks) (pointers_at ks) ++ (nulls (nulls_at ks) ++ variables (pointers_at ks) (buffer_at ks))))))

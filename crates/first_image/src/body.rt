@@ -3,7 +3,8 @@
 ghost use Rattle.std.specs.Prelude.{◌≡◌, ◌+◌, ◌*◌, ◌^◌, ◌<◌, ◌≤◌, [], ◌∷◌, ◌++◌, length, IfOk, OnOk};
 ghost use Rattle.std.specs.List.{AllByRecursion};
 ghost use Rattle.first_image.specs.Templates.{pair_code, operator_code, component_code, item_code, sum_code, write_code, statement_code, statements_code};
-ghost use Rattle.first_image.specs.Emitted.{tables_at, emitted, emitted_piece, known, IsShort};
+ghost use Rattle.first_form.specs.Shaders.{IsStatement};
+ghost use Rattle.first_image.specs.Emitted.{tables_at, emitted, emitted_piece, known};
 
 use crate::ids::Ids;
 use crate::output::{Output, fresh, push};
@@ -21,7 +22,7 @@ pub fn emit_statements(
     ids: &Ids,
     statements: &[Statement],
 ) -> Result<(), AllocError>
-    requires short { AllByRecursion IsShort statements.now }
+    requires short { AllByRecursion IsStatement statements.now }
     requires room { out.old.next + 191 * length statements.now < 2 ^ 32 }
     ensures code { OnOk result (out.new ≡ emitted_piece out.old (statements_code (tables_at ids.now.numbers.items) statements.now out.old.next 0)) }
     ensures few { OnOk result (out.new.next ≤ out.old.next + 191 * length statements.now) }
@@ -39,7 +40,7 @@ fn emit_statement(
     ids: &Ids,
     statement: &Statement,
 ) -> Result<(), AllocError>
-    requires short { IsShort statement.now }
+    requires short { IsStatement statement.now }
     requires room { out.old.next + 191 < 2 ^ 32 }
     ensures code { OnOk result (out.new ≡ emitted_piece out.old (statement_code (tables_at ids.now.numbers.items) statement.now out.old.next 0)) }
     ensures few { OnOk result (out.new.next ≤ out.old.next + 191) }

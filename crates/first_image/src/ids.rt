@@ -4,7 +4,8 @@ ghost use Rattle.std.specs.Prelude.{◌≡◌, ◌+◌, ◌*◌, ◌^◌, ◌<�
 ghost use Rattle.std.specs.List.{AllByRecursion};
 ghost use Rattle.std.specs.List.Sorted.{IsStrictlyIncreasing};
 ghost use Rattle.first_image.specs.Image.{position, statements_constants};
-ghost use Rattle.first_image.specs.Emitted.{array_at, pointers_at, nulls_at, buffer_at, entry_at, tables_at, IsShort};
+ghost use Rattle.first_form.specs.Shaders.{IsStatement};
+ghost use Rattle.first_image.specs.Emitted.{array_at, pointers_at, nulls_at, buffer_at, entry_at, tables_at};
 
 use crate::constants::constants_of;
 use first_form::Statement;
@@ -21,7 +22,7 @@ pub struct Ids {
 impl Ids {
     /// The ids of an image whose entry has these statements.
     pub fn of(alloc: Global, statements: &[Statement]) -> Result<Ids, AllocError>
-        requires short { AllByRecursion IsShort statements.now }
+        requires short { AllByRecursion IsStatement statements.now }
         requires few { length statements.now < 2 ^ 20 }
         ensures { IfOk result (λ ids. ids.numbers.items ≡ statements_constants statements.now []) }
     {

@@ -3,10 +3,12 @@
 
 mod body;
 mod constants;
-mod emit;
 mod ids;
+mod image;
 mod laws;
 mod output;
 mod sections;
+mod spelling;
 
+pub use image::emit;
 pub use laws::words_mean_source;

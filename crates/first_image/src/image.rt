@@ -4,20 +4,42 @@ ghost use Rattle.std.specs.Prelude.{◌≡◌, ◌+◌, ◌*◌, ◌^◌, ◌<�
 ghost use Rattle.std.specs.List.{AllByRecursion};
 ghost use Rattle.spirv_words.specs.Strings.{string_words, IsText};
 ghost use Rattle.spirv_words.specs.Words.{CanBeSpelled};
-ghost use Rattle.spirv_words.specs.Layouts.{is_group};
-ghost use Rattle.first_image.specs.Templates.{ins, statements_code};
-ghost use Rattle.first_image.specs.Image.{constants, qualified, preamble, buffer_types, more_types, variables, image_of};
-ghost use Rattle.first_image.specs.Emitted.{array_at, pointers_at, buffer_at, entry_at, tables_at, decorations, entry_start, entry_end, IsShort};
+ghost use Rattle.first_image.specs.Templates.{ins};
+ghost use Rattle.first_image.specs.Image.{qualified, buffer_types, more_types, variables, image_of};
+ghost use Rattle.first_form.specs.Shaders.{IsShader, IsStatement};
+ghost use Rattle.first_image.specs.Emitted.{array_at, pointers_at, buffer_at, entry_at, decorations, entry_start, image_with, preamble_at, declared_at};
 
 use crate::body::emit_statements;
 use crate::ids::Ids;
 use crate::output::{Output, push};
-use crate::sections::{FUNCTION, INPUT, STORAGE_BUFFER, UINT, UINT3, VOID};
+use crate::sections::{
+    FUNCTION, INPUT, STORAGE_BUFFER, UINT, UINT3, VOID, emit_beginning, emit_constants, emit_nulls,
+    emit_plain_types, emit_pointer_types,
+};
+use crate::spelling::image_is_spelled;
 use first_form::{GroupSize, Shader, Statement};
 use slang_tree::Name;
 use spirv_words::{Image, Instruction, Op, string_words};
 use sqlite_items::Items;
 use std::alloc::{AllocError, Global};
+
+/// The image of a shader that a module of this name declares: its words do what the shader means, and can be written.
+pub fn emit(alloc: Global, home: &Name, shader: &Shader) -> Result<Image, AllocError>
+    requires shader { IsShader shader.now }
+    requires few { length shader.now.statements < 2 ^ 20 }
+    requires home_is_text { IsText home.now }
+    requires home_is_short { length home.now ≤ 64 }
+    ensures image { IfOk result (λ image. image ≡ image_of home.now shader.now) }
+    ensures spelled { IfOk result (λ image. CanBeSpelled image) }
+{
+    image_is_spelled();
+    let ids = Ids::of(alloc, shader.statements.as_slice())?;
+    let mut code = Items::new(alloc);
+    emit_beginning(alloc, &mut code)?;
+    emit_preamble(alloc, &mut code, &ids, home, shader)?;
+    emit_declarations(alloc, &mut code, &ids)?;
+    emit_entry(alloc, code, &ids, shader.statements.as_slice())
+}
 
 /// The entry point, with its name and the variables that it uses, and the size of its groups.
 fn emit_entry_point(
@@ -53,6 +75,23 @@ fn emit_name(
     let mut operands = vec![in alloc; id]?;
     operands.extend_from_slice(string_words(alloc, bytes.as_slice())?.as_slice())?;
     push(alloc, code, Op::Name, operands.as_slice())
+}
+
+/// The entry point, the names and the decorations.
+fn emit_preamble(
+    alloc: Global,
+    code: &mut Items<Instruction>,
+    ids: &Ids,
+    home: &Name,
+    shader: &Shader,
+) -> Result<(), AllocError>
+    ensures { OnOk result (code.new ≡ code.old ++ preamble_at ids.now.numbers.items home.now shader.now) }
+{
+    emit_entry_point(alloc, code, ids, &shader.entry, shader.group)?;
+    emit_name(alloc, code, ids.buffer(), home, &shader.buffer)?;
+    emit_name(alloc, code, ids.entry(), home, &shader.entry)?;
+    emit_decorations(alloc, code, ids)?;
+    Ok(())
 }
 
 /// How the buffer is laid out and bound, and that the second variable is the invocation's global id.
@@ -120,6 +159,24 @@ fn emit_variables(
     Ok(())
 }
 
+/// The types, constants and variables.
+fn emit_declarations(
+    alloc: Global,
+    code: &mut Items<Instruction>,
+    ids: &Ids,
+) -> Result<(), AllocError>
+    ensures { OnOk result (code.new ≡ code.old ++ declared_at ids.now.numbers.items) }
+{
+    emit_plain_types(alloc, code)?;
+    emit_constants(alloc, code, ids.numbers.as_slice())?;
+    emit_buffer_types(alloc, code, ids.array())?;
+    emit_pointer_types(alloc, code, ids.pointers())?;
+    emit_more_types(alloc, code, ids.array(), ids.pointers())?;
+    emit_nulls(alloc, code, ids.nulls())?;
+    emit_variables(alloc, code, ids.pointers(), ids.buffer())?;
+    Ok(())
+}
+
 /// What stands before the statements: the entry, its label, and its parameter's variable with the global id in it.
 fn emit_entry_start(
     alloc: Global,
@@ -145,10 +202,9 @@ fn emit_entry(
     ids: &Ids,
     statements: &[Statement],
 ) -> Result<Image, AllocError>
-    requires short { AllByRecursion IsShort statements.now }
+    requires short { AllByRecursion IsStatement statements.now }
     requires few { length statements.now < 2 ^ 20 }
-    ensures bound { IfOk result (λ image. image.bound ≡ (statements_code (tables_at ids.now.numbers.items) statements.now (entry_at ids.now.numbers.items + 4) 0).id) }
-    ensures code { IfOk result (λ image. image.instructions ≡ code ++ (entry_start (pointers_at ids.now.numbers.items) (buffer_at ids.now.numbers.items) (entry_at ids.now.numbers.items) ++ ((statements_code (tables_at ids.now.numbers.items) statements.now (entry_at ids.now.numbers.items + 4) 0).instructions ++ entry_end))) }
+    ensures { IfOk result (λ image. image ≡ image_with ids.now.numbers.items code statements.now) }
 {
     let mut out = Output {
         instructions: code,
