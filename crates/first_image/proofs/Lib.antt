@@ -5,3 +5,4 @@ pub mod BodyCode
 pub mod Appending
 pub mod SpelledImages
 pub mod WholeImages
+pub mod ImageSizes

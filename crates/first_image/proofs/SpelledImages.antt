@@ -130,7 +130,7 @@ name_text (b ∷ bs) e =
     (q.0, q.1, word_text bs p.1)
 
 -- the bytes of a name, of which there are few
-free_name : (bs : List ℕ) → IsTrue (is_free_name bs) → IsText bs × (length bs ≤ 64)
+pub free_name : (bs : List ℕ) → IsTrue (is_free_name bs) → IsText bs × (length bs ≤ 64)
 free_name bs h =
     let p = both _ _ h in
     let q = both _ _ p.0 in

@@ -12,3 +12,4 @@ mod spelling;
 
 pub use image::emit;
 pub use laws::words_mean_source;
+pub use spelling::{image_is_short, image_is_spelled};
