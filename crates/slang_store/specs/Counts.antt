@@ -1,0 +1,6 @@
+-- Counts of faults of the outside.
+use Rattle.std.specs.Prelude.{◌≡◌, ℕ, ◌<◌, ◌⊎◌}
+
+-- the count went up, or stands at the last value of a u64, where it stays and counts as risen
+abbrev pub Rose : ℕ → ℕ → Type 0
+Rose old new = (old < new) ⊎ (new ≡ 18446744073709551615)

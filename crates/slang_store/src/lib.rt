@@ -1,0 +1,13 @@
+//! The outside as the compiler sees it: files that are read and put by name, and a sink that takes bytes, in memory
+//! and on the host.
+#![tactic(auto)]
+
+mod files;
+mod memory_files;
+mod memory_sink;
+mod sink;
+
+pub use files::{FileFault, Files, Found};
+pub use memory_files::MemoryFiles;
+pub use memory_sink::MemorySink;
+pub use sink::{Failed, Sink, write_all};
