@@ -3,11 +3,15 @@
 #![tactic(auto)]
 
 mod files;
+mod host_folder;
+mod host_out;
 mod memory_files;
 mod memory_sink;
 mod sink;
 
 pub use files::{FileFault, Files, Found};
+pub use host_folder::HostFolder;
+pub use host_out::HostOut;
 pub use memory_files::MemoryFiles;
 pub use memory_sink::MemorySink;
 pub use sink::{Failed, Sink, write_all};
