@@ -49,13 +49,23 @@ impl MemorySink {
 }
 
 impl Sink for MemorySink {
-    ghost use Rattle.std.specs.Prelude.{Some};
+    ghost use Rattle.std.specs.Prelude.{◌+◌, ◌-◌, ◌<◌, ◌≤◌, ◌↔◌, ◌++◌, Some, IfOk, OnErr, IsErr, length, min, take};
+    ghost use Rattle.slang_store.specs.Counts.{last_count};
 
     ghost taken = { λ sink. Some sink.bytes };
 
     ghost faults = { λ sink. sink.faults };
 
-    fn take(&mut self, piece: &[u8]) -> Result<usize, Failed> {
+    /// Takes as much of the piece as still fits.
+    fn take(&mut self, piece: &[u8]) -> Result<usize, Failed>
+        ensures full { IsErr result ↔ ((0 < length piece.now) × (self.old.left ≡ 0)) }
+        ensures counted { OnErr result (self.new ≡ record self.old { faults = min (self.old.faults + 1) last_count }) }
+        ensures amount { IfOk result (λ n. n ≡ min (length piece.now) self.old.left) }
+        ensures bytes { IfOk result (λ n. self.new.bytes ≡ self.old.bytes ++ take n piece.now) }
+        ensures room { IfOk result (λ n. self.new.left ≡ self.old.left - n) }
+        ensures faults { IfOk result (λ n. self.new.faults ≡ self.old.faults) }
+        ensures no_fault_lost { self.old.faults ≤ self.new.faults }
+    {
         let count = piece.len().min(self.room - self.bytes.len());
         if count == 0 && !piece.is_empty() {
             self.faults = self.faults.saturating_add(1);
