@@ -40,7 +40,9 @@ impl MemoryFiles {
 }
 
 impl Files for MemoryFiles {
-    ghost use Rattle.std.specs.Prelude.{Some};
+    ghost use Rattle.std.specs.Prelude.{◌≡◌, ◌≤◌, Some, None, OnOk, OnErr, length};
+    ghost use Rattle.slang_store.specs.Answers.{IfBytes, OnAbsent, OnTooLong, OnFailed};
+    ghost use Rattle.slang_store.specs.Contents.{with_entry, IsLonger};
     ghost use Rattle.slang_store.specs.Held.{held};
 
     ghost told = { λ files. Some (held files) };
@@ -49,7 +51,14 @@ impl Files for MemoryFiles {
 
     ghost put_faults = { λ files. 0 };
 
-    fn read(&mut self, alloc: Global, name: &Name, limit: usize) -> Result<Found, FileFault> {
+    fn read(&mut self, alloc: Global, name: &Name, limit: usize) -> Result<Found, FileFault>
+        ensures bytes { IfBytes result (λ b. held self.old name.now ≡ Some b) }
+        ensures within_limit { IfBytes result (λ b. length b ≤ limit) }
+        ensures absent { OnAbsent result (held self.old name.now ≡ None) }
+        ensures too_long { OnTooLong result (IsLonger limit (held self.old name.now)) }
+        ensures never_failed { OnFailed result ⊥ }
+        ensures stays { self.new ≡ self.old }
+    {
         match self.get(name.as_bytes()) {
             None => Ok(Found::Absent),
             Some(bytes) => {
@@ -63,7 +72,11 @@ impl Files for MemoryFiles {
         }
     }
 
-    fn put(&mut self, name: &Name, bytes: &[u8]) -> Result<(), FileFault> {
+    fn put(&mut self, name: &Name, bytes: &[u8]) -> Result<(), FileFault>
+        ensures done { OnOk result (held self.new ≡ with_entry (held self.old) name.now bytes.now) }
+        ensures unchanged { OnErr result (held self.new ≡ held self.old) }
+        ensures never_failed { OnFailed result ⊥ }
+    {
         let key = Vec::from_slice(self.alloc, name.as_bytes()).map_err(FileFault::Memory)?;
         let bytes = Vec::from_slice(self.alloc, bytes).map_err(FileFault::Memory)?;
         match self.entries.insert(key, bytes) {
