@@ -7,11 +7,10 @@ ghost use Rattle.slang_store.specs.Answers.{IfBytes, OnAbsent, OnTooLong};
 use crate::{Failed, FileFault, Files, Found};
 use slang_tree::Name;
 use std::alloc::{AllocError, Global};
-use std::fs;
 use std::io::{Error, ErrorKind, Read};
 use std::marker::Model;
 use std::rt::Files as HostFiles;
-use std::str;
+use std::{fs, str};
 
 /// How many bytes one turn of a read takes at most.
 const PIECE: usize = 4096;

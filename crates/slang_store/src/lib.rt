@@ -8,6 +8,8 @@ mod host_out;
 mod memory_files;
 mod memory_sink;
 mod sink;
+#[cfg(test)]
+mod tests;
 
 pub use files::{FileFault, Files, Found};
 pub use host_folder::HostFolder;
