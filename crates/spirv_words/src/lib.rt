@@ -2,10 +2,16 @@
 //! the run of an image for one invocation. The definitions are those of SPIR-V 1.5, cut to the opcodes of this profile.
 #![tactic(auto)]
 
+mod bytes;
+mod faults;
 mod images;
 mod opcodes;
+#[cfg(test)]
+mod tests;
 mod writing;
 
+pub use bytes::{from_bytes, to_bytes};
+pub use faults::{ImageCode, ImageFault};
 pub use images::{Image, Instruction};
 pub use opcodes::Op;
 pub use writing::write;
