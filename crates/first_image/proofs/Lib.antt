@@ -5,3 +5,5 @@ pub mod Comes
 pub mod Acts
 pub mod Relation
 pub mod Exprs
+pub mod Stmts
+pub mod Both
