@@ -7,3 +7,5 @@ pub mod Relation
 pub mod Exprs
 pub mod Stmts
 pub mod Both
+pub mod Numbered
+pub mod Links
