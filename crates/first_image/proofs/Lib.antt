@@ -9,3 +9,4 @@ pub mod Stmts
 pub mod Both
 pub mod Numbered
 pub mod Links
+pub mod Constants

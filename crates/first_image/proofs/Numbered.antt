@@ -33,6 +33,19 @@ numbered_on (i ∷ a) b n m k h g = counts_on (result_of i.op i.operands) n (λ 
 pub numbered_to : (a : List Instruction) (n m k : ℕ) → m ≡ k → Numbered n a m → Numbered n a k
 numbered_to a n m k e h = subst (λ k. Numbered n a k) e h
 
+counts_from : {A : Type 0} (o : Option ℕ) (n : ℕ) (P : ℕ → Type 0) → ((n : ℕ) → P n → A) → Counts o n P → A
+counts_from None n P f h = f n h
+counts_from (Some r) n P f h = f (n + 1) h.1
+
+first_counts : (o : Option ℕ) (n r : ℕ) (P : ℕ → Type 0) → o ≡ Some r → Counts o n P → Counts o r P
+first_counts None n r P e h = absurd cc
+first_counts (Some q) n r P e h = let same : n ≡ r = sym h.0 ∙ some_is e in subst (λ n. Counts (Some q) n P) same h
+
+-- from an instruction with a result on, the ids are those from its result on
+pub numbered_from : (a b : List Instruction) (i : Instruction) (r n n' : ℕ) → result_of i.op i.operands ≡ Some r → Numbered n (a ++ i ∷ b) n' → Numbered r (i ∷ b) n'
+numbered_from [] b i r n n' e h = first_counts (result_of i.op i.operands) n r (λ m. Numbered m b n') e h
+numbered_from (j ∷ a) b i r n n' e h = counts_from (result_of j.op j.operands) n (λ m. Numbered m (a ++ i ∷ b) n') (λ m h. numbered_from a b i r m n' e h) h
+
 -- ---- an id is found where it is defined
 
 not_below : (o : Option ℕ) (n : ℕ) (P : ℕ → Type 0) (r : ℕ) → ((n : ℕ) → P n → n ≤ r) → Counts o n P → n ≤ r
