@@ -10,3 +10,4 @@ pub mod Both
 pub mod Numbered
 pub mod Links
 pub mod Constants
+pub mod Image
