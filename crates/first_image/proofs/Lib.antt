@@ -11,3 +11,7 @@ pub mod Numbered
 pub mod Links
 pub mod Constants
 pub mod Image
+pub mod Temporaries
+pub mod Entry
+pub mod NeverStuck
+pub mod Agreement
