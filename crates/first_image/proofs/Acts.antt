@@ -1,12 +1,12 @@
 -- What each instruction does, where it is known what its operands stand for.
-use Rattle.std.proofs.Common.{◌≡◌, ◌≢◌, ◌⊎◌, ⊎_elim, ℕ, ◌+◌, ◌*◌, ◌/◌, Bool, true, false, ◌&&◌, cond, List, [], ◌∷◌, ◌++◌, Option, Some, refl, ap, ◌∙◌, arith}
+use Rattle.std.proofs.Common.{◌≡◌, ◌≢◌, ◌⊎◌, ℕ, ◌+◌, ◌*◌, ◌/◌, true, false, ◌&&◌, cond, List, [], ◌∷◌, Option, Some, refl, ap, ◌∙◌, arith}
 use Rattle.std.specs.Prelude.{nat_lt, nat_eq}
 use Rattle.std.proofs.Math.Nat.{mul-div_cancel, mul-div_cancel_left}
 use Rattle.std.proofs.lemmas.Bool.{ne_eqb, eq-eqb}
-use Rattle.behavior.specs.Values.{Value, Word, Way, Found, Outside, part}
+use Rattle.behavior.specs.Values.{Value, Word, Found, Outside, part}
 use Rattle.behavior.specs.Operations.{word_add, is_negative}
 use Rattle.spirv_words.specs.declared.opcodes.Op.TheVariants.{Load, Store, AccessChain, IAdd}
-use Rattle.spirv_words.specs.Machine.{Shape, Words, Unbounded, Fields, NoField, Field, Root, Local, Input, Operand, Plain, Path, Block, Cell, at}
+use Rattle.spirv_words.specs.Machine.{Shape, Words, Unbounded, Fields, NoField, Field, Local, Input, Plain, Path, Block, Cell, at}
 use Rattle.spirv_words.specs.Step.{State, Setting, Turn, Goes, Writes, IsUndefined, with_some, with_word, with_found, with_spot, spot, within, Byte, Beyond, put, load, store, chain, binary, act, gives, next}
 
 -- ---- maps

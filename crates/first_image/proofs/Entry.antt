@@ -1,18 +1,18 @@
 -- The entry: its parameter is stored, its statements run, and it returns.
-use Rattle.std.proofs.Common.{◌≡◌, ◌≢◌, inr, ℕ, zero, suc, ◌+◌, ◌<◌, ◌≤◌, Bool, false, List, [], ◌∷◌, ◌++◌, length, Option, Some, None, refl, ap, ◌∙◌, subst, arith}
+use Rattle.std.proofs.Common.{◌≡◌, ◌≢◌, inr, ℕ, zero, suc, ◌+◌, ◌<◌, false, List, [], ◌∷◌, length, Some, None, refl, ap, ◌∙◌, subst, arith}
 use Rattle.std.specs.Prelude.{slice_get}
 use Rattle.behavior.specs.Values.{Value, triple}
-use Rattle.behavior.specs.Meanings.{Done, Out, Undefined, Stuck, Ids, Outcome}
+use Rattle.behavior.specs.Meanings.{Done, Out, Undefined, Stuck, Ids}
 use Rattle.behavior.specs.Running.{World, Result, Went, Ends as Ended, Flow, Next, Broke, Continued, Returned, outcome}
 use Rattle.spirv_words.specs.declared.opcodes.Op.TheVariants.{Return, FunctionEnd}
 use Rattle.spirv_words.specs.declared.images.Instruction.{Instruction}
-use Rattle.spirv_words.specs.Machine.{Local, Operand, Plain, Path, Input}
+use Rattle.spirv_words.specs.Machine.{Local, Plain, Path}
 use Rattle.spirv_words.specs.Step.{State, Setting, with_some, back, gives, next}
 use Rattle.spirv_words.specs.Runs.{setting, start}
 use Rattle.first_form.specs.declared.shader.Shader.{Shader}
 use Rattle.first_image.specs.Source.{statements_mean, source}
 use Rattle.first_image.specs.Templates.{ins, statements_code}
-use Rattle.first_image.specs.Image.{image_code, tables, entry_id, buffer_id, pointers_id}
+use Rattle.first_image.specs.Image.{image_code, tables, entry_id, buffer_id}
 use Rattle.first_image.proofs.Lists.{some_is}
 use Rattle.first_image.proofs.Standing.{has_front, has_back}
 use Rattle.first_image.proofs.Acts.{stored, at_same, at_other, put_same, load_input, store_acts}
@@ -137,6 +137,7 @@ module _ (home : List ℕ) (p : Shader) (ids : Ids) (lengths : ℕ → ℕ → �
   pub entry_over : (answers : List ℕ) (n : ℕ) → (source p ids lengths answers n).ending ≢ Stuck → Over m (start m) (record { answers = answers; events = []; clock = n }) (source p ids lengths answers n).events (source p ids lengths answers n).ending
   entry_over answers n ok =
       let w : World = record { answers = answers; events = []; clock = n } in
+      -- no statement jumps to these
       let x : Exits = record { broken = 0; continued = 0 } in
       let c = context n in
       let from = q + 1 + 1 + 1 + 1 + 1 in

@@ -2,11 +2,11 @@
 use Rattle.std.proofs.Common.{◌≡◌, ℕ, ◌+◌, ◌<◌, ◌≤◌, Bool, true, false, List, [], ◌∷◌, ◌++◌, length, Some, None, refl, ap, ◌∙◌, arith, length-append}
 use Rattle.std.specs.Prelude.{slice_get}
 use Rattle.std.proofs.lemmas.Option.{slice_get_within}
-use Rattle.behavior.specs.Values.{Value, Word, Found, Outside, part}
+use Rattle.behavior.specs.Values.{Value, Word, part}
 use Rattle.behavior.specs.Operations.{word_add}
 use Rattle.behavior.specs.Running.{World, Result, Went, then, on_word, on_way}
 use Rattle.spirv_words.specs.declared.opcodes.Op.{Op}
-use Rattle.spirv_words.specs.declared.opcodes.Op.TheVariants.{Load, AccessChain, IAdd}
+use Rattle.spirv_words.specs.declared.opcodes.Op.TheVariants.{Load, IAdd}
 use Rattle.spirv_words.specs.Machine.{Local, Plain, Path, if_some, Second, standing, is_signed, result_at, type_at}
 use Rattle.spirv_words.specs.Step.{State, Goes, act, gives}
 use Rattle.spirv_words.specs.Runs.{shape_of}

@@ -1,5 +1,5 @@
 -- The image of a shader, section by section: its ids, its decorations, and what the ids that the code names stand for.
-use Rattle.std.proofs.Common.{◌≡◌, ℕ, ◌+◌, ◌<◌, Bool, true, false, cond, List, [], ◌∷◌, ◌++◌, length, Option, Some, refl, ap, ◌∙◌, subst, arith}
+use Rattle.std.proofs.Common.{◌≡◌, ℕ, ◌+◌, ◌<◌, Bool, true, false, cond, List, [], ◌∷◌, ◌++◌, length, Some, refl, ap, ◌∙◌, subst, arith}
 use Rattle.std.specs.Prelude.{slice_get, nat_eq}
 use Rattle.std.proofs.lemmas.Bool.{ne_eqb, eq-eqb}
 use Rattle.behavior.specs.Values.{Word}
@@ -7,18 +7,17 @@ use Rattle.behavior.specs.Meanings.{Ids}
 use Rattle.spirv_words.specs.declared.opcodes.Op.TheVariants.{TypeRuntimeArray, TypeStruct, TypePointer, TypeFunction, Constant, Variable, Function, Return, FunctionEnd}
 use Rattle.spirv_words.specs.declared.images.Instruction.{Instruction}
 use Rattle.spirv_words.specs.Machine.{Words, Unbounded, Fields, NoField, Field, PointerTo, Input, Plain, Path, Block, if_some, or_zero, IsType, IsValue, on_shape, global_variable, Globals, declared, decoration, offset, result_of, place_of, definition_of}
-use Rattle.spirv_words.specs.Step.{Setting}
 use Rattle.spirv_words.specs.Runs.{undeclared, setting, start_place}
 use Rattle.first_form.specs.declared.shader.Shader.{Shader}
-use Rattle.first_image.specs.Templates.{ins, Tables, Piece, statements_code}
+use Rattle.first_image.specs.Templates.{ins, Piece, statements_code}
 use Rattle.first_image.specs.Sections.{beginning, plain_types, constants_code, pointer_types, nulls}
 use Rattle.first_image.specs.Image.{position, constants, array_id, pointers_id, nulls_id, buffer_id, entry_id, tables, preamble, buffer_types, more_types, variables, entry_code, image_code}
 use Rattle.first_image.proofs.Lists.{contains, position_low}
 use Rattle.first_image.proofs.Standing.{HasAt, has_front, has_back, has_all}
 use Rattle.first_image.proofs.Acts.{row}
-use Rattle.first_image.proofs.Relation.{HasType, IsLinked}
+use Rattle.first_image.proofs.Relation.{IsLinked}
 use Rattle.first_image.proofs.Numbered.{Numbered, numbered_on, place_found, definition_found, statements_numbered}
-use Rattle.first_image.proofs.Links.{has_function, declared_on, stays_ids, stays_shapes, shape_before, found_shape, found_id}
+use Rattle.first_image.proofs.Links.{declared_on, stays_ids, stays_shapes, shape_before, found_shape, found_id}
 use Rattle.first_image.proofs.Constants.{constants_numbered, constants_plain, constants_hold, constants_stand}
 
 -- ---- the ids of each section
@@ -82,7 +81,7 @@ module _ (home : List ℕ) (p : Shader) where
   abbrev body : Piece
   body = statements_code (tables p) p.statements (e + 4) 0
 
-  -- what stands before the constants, and between them and the entry
+  -- what stands before the constants, and between them and the entry; the code is the four parts one after the other
   abbrev before_constants : List Instruction
   before_constants = beginning ++ (preamble home p ++ plain_types)
 
@@ -91,9 +90,6 @@ module _ (home : List ℕ) (p : Shader) where
 
   abbrev after_constants : List Instruction
   after_constants = before_entry ++ entry_code p
-
-  code_is : code ≡ before_constants ++ (constants_code 13 ks ++ after_constants)
-  code_is = refl
 
   -- ---- its ids
 

@@ -1,15 +1,15 @@
 -- No run of a shader of the first form is stuck.
-use Rattle.std.proofs.Common.{◌≡◌, ◌≢◌, ℕ, Bool, true, false, List, [], ◌∷◌, refl, sym, ap, ◌∙◌, subst}
-use Rattle.std.specs.Prelude.{nat_lt, slice_get}
-use Rattle.behavior.specs.Values.{Value, Word, part, triple}
-use Rattle.behavior.specs.Meanings.{Event, Write, End, Done, Out, Undefined, Stuck, Ids}
-use Rattle.behavior.specs.Running.{World, Result, Went, Ends, then, Flow, Next, then_next, and_event, on_word, on_local, on_way, choose, outcome}
+use Rattle.std.proofs.Common.{◌≡◌, ◌≢◌, ℕ, Bool, true, false, List, [], ◌∷◌, refl, sym, subst}
+use Rattle.std.specs.Prelude.{nat_lt}
+use Rattle.behavior.specs.Values.{Value, Word, triple}
+use Rattle.behavior.specs.Meanings.{Stuck, Ids}
+use Rattle.behavior.specs.Running.{World, Result, Went, Ends, then, Flow, Next, then_next, on_word, choose, outcome}
 use Rattle.first_form.specs.declared.shader.Shader.{Shader}
 use Rattle.first_form.specs.declared.shader.Statement.{Statement}
 use Rattle.first_form.specs.declared.shader.Sum.{Sum}
 use Rattle.first_form.specs.declared.shader.Item.{Item}
 use Rattle.first_form.specs.declared.shader.Item.TheVariants.{Number, X}
-use Rattle.first_image.specs.Source.{item_means, plus_means, more_means, sum_means, write_means, statement_means, statements_mean, source}
+use Rattle.first_image.specs.Source.{item_means, plus_means, more_means, sum_means, statement_means, statements_mean, source}
 
 -- the end is not Stuck; and where the run goes on, it goes on as P says
 abbrev Fine : {A : Type 0} → (A → List Value → Type 0) → Result A → Type 0

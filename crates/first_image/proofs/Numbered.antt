@@ -9,7 +9,7 @@ use Rattle.first_form.specs.declared.shader.Statement.{Statement}
 use Rattle.first_form.specs.declared.shader.Sum.{Sum}
 use Rattle.first_form.specs.declared.shader.Item.{Item}
 use Rattle.first_form.specs.declared.shader.Item.TheVariants.{Number, X}
-use Rattle.first_image.specs.Templates.{ins, Tables, Code, pair_code, operator_code, item_code, more_code, sum_code, write_code, statement_code, statements_code}
+use Rattle.first_image.specs.Templates.{ins, Tables, Code, pair_code, operator_code, item_code, more_code, sum_code, statement_code, statements_code}
 use Rattle.first_image.proofs.Lists.{some_is}
 
 -- a result, if there is one, is the next id, and the rest begins at the id after it

@@ -1,7 +1,7 @@
 -- One law for each template of a statement, and one induction over the statements.
-use Rattle.std.proofs.Common.{ℕ, ◌+◌, ◌≤◌, ◌≡◌, Bool, true, false, List, [], ◌∷◌, ◌++◌, length, Option, Some, None, ap, ◌∙◌, subst, arith, length-append}
+use Rattle.std.proofs.Common.{ℕ, ◌+◌, ◌≤◌, ◌≡◌, Bool, true, List, [], ◌∷◌, ◌++◌, length, Some, None, ap, ◌∙◌, subst, arith, length-append}
 use Rattle.std.specs.Prelude.{nat_lt}
-use Rattle.behavior.specs.Values.{Value, Word}
+use Rattle.behavior.specs.Values.{Value}
 use Rattle.behavior.specs.Meanings.{Write, Undefined}
 use Rattle.behavior.specs.Running.{World, Result, Went, Ends, Flow, Next, Broke, Continued, Returned, then_next, and_event, on_word, choose}
 use Rattle.spirv_words.specs.declared.opcodes.Op.TheVariants.{AccessChain, Store}
@@ -13,8 +13,8 @@ use Rattle.first_image.specs.Templates.{ins, Code, Piece, pair_code, sum_code, w
 use Rattle.first_image.proofs.Standing.{has_front, has_back}
 use Rattle.first_image.proofs.Acts.{at_same, at_other, store_writes, chain_cell, chain_beyond}
 use Rattle.first_image.proofs.Comes.{Follows, over_on, follows_on, word_follows, choose_follows, is_undefined}
-use Rattle.first_image.proofs.Relation.{Context, IsReady, Sound, Reaches, Arrives, ExprRuns, Exits, Lands, StmtRuns, reaches_here, reaches_on, reaches_at, here, result_reaches, write_reaches}
-use Rattle.first_image.proofs.Exprs.{PairGives, SumUsed, pair_follows, pair_more_ids, pair_more_temps, constant_known, not_signed, sum_runs}
+use Rattle.first_image.proofs.Relation.{Context, IsReady, Reaches, Arrives, ExprRuns, Exits, Lands, StmtRuns, reaches_here, reaches_on, reaches_at, here, result_reaches, write_reaches}
+use Rattle.first_image.proofs.Exprs.{SumUsed, pair_follows, pair_more_ids, pair_more_temps, constant_known, not_signed, sum_runs}
 
 -- the numbers that statements name are among the constants, and so is the number of the buffer's one member
 abbrev pub StatementUsed : (ℕ → Bool) → Statement → Type 0
