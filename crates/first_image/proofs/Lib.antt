@@ -1,1 +1,17 @@
 pub mod Worked
+pub mod Standing
+pub mod Lists
+pub mod Comes
+pub mod Acts
+pub mod Relation
+pub mod Exprs
+pub mod Stmts
+pub mod Both
+pub mod Numbered
+pub mod Links
+pub mod Constants
+pub mod Image
+pub mod Temporaries
+pub mod Entry
+pub mod NeverStuck
+pub mod Agreement

@@ -1,5 +1,5 @@
 -- The definitions computed on a shader: its words are those that were worked out by hand, and both meanings run to the same events.
-use Rattle.std.proofs.Common.{◌≡◌, ℕ, List, [], ◌∷◌, refl}
+use Rattle.std.proofs.Common.{◌≡◌, [], ◌∷◌, refl}
 use Rattle.behavior.specs.Meanings.{Write, Done, Undefined, Ids}
 use Rattle.spirv_words.specs.Words.{image_words}
 use Rattle.spirv_words.specs.Runs.{words}
