@@ -1,0 +1,5 @@
+pub mod Loops
+pub mod Decimals
+pub mod Cutting
+pub mod Steps
+pub mod Sums
