@@ -162,7 +162,7 @@ module _ (c : Context) where
     ids = λ k lt. b.ids k (omega arith) ∙ a.ids k lt;
     temps = λ k lt. b.temps k (omega arith) ∙ a.temps k lt;
     below = b.below ∙ a.below;
-    others = λ k x lt free. b.others k x lt free ∙ a.others k x lt free
+    others = λ k x lt free. b.others k x lt free ∙ a.others k x lt free;
   }
 
   -- a state reaches itself
@@ -172,8 +172,11 @@ module _ (c : Context) where
   -- one part of the code and then another
   pub reaches_on : {s s1 s2 : State} {w w1 w2 : World} {id temp id1 temp1 p1 p2 : ℕ} {l1 l2 : List Value} → Reaches c s w id temp p1 l1 w1 s1 → id ≤ id1 → temp ≤ temp1 → Reaches c s1 w1 id1 temp1 p2 l2 w2 s2 → Reaches c s w id temp p2 l2 w2 s2
   reaches_on {s = s} {s1 = s1} {s2 = s2} {w = w} {w1 = w1} {w2 = w2} {id = id} {temp = temp} {id1 = id1} {temp1 = temp1} a i t b = record {
-    comes = comes_on c.m s s1 s2 w w1 w2 a.comes b.comes; place = b.place;
-    later = later_on id temp id1 temp1 s s1 s2 i t a.later b.later; sound = b.sound; less = omega (arith, a.less, b.less)
+    comes = comes_on c.m s s1 s2 w w1 w2 a.comes b.comes;
+    place = b.place;
+    later = later_on id temp id1 temp1 s s1 s2 i t a.later b.later;
+    sound = b.sound;
+    less = omega (arith, a.less, b.less);
   }
 
   -- the place, counted in another way
@@ -191,11 +194,17 @@ module _ (c : Context) where
     place = ap (λ p. p + 1) a.place;
     later = record {
       ids = λ k lt. at_other s1.ids r o k (λ e. absurd (omega arith)) ∙ a.later.ids k lt;
-      temps = a.later.temps; below = a.later.below; others = a.later.others };
+      temps = a.later.temps;
+      below = a.later.below;
+      others = a.later.others;
+    };
     sound = record {
       known = λ k lt. at_other s1.ids r o k (λ e. absurd (omega arith)) ∙ a.sound.known k lt;
-      level = a.sound.level; count = a.sound.count; locals = a.sound.locals };
-    less = a.less
+      level = a.sound.level;
+      count = a.sound.count;
+      locals = a.sound.locals;
+    };
+    less = a.less;
   }
 
   -- one instruction more, which writes a word of a buffer
@@ -205,5 +214,5 @@ module _ (c : Context) where
     place = ap (λ p. p + 1) a.place;
     later = record { ids = a.later.ids; temps = a.later.temps; below = a.later.below; others = a.later.others };
     sound = record { known = a.sound.known; level = a.sound.level; count = a.sound.count; locals = a.sound.locals };
-    less = a.less
+    less = a.less;
   }

@@ -57,7 +57,7 @@ module _ (c : Context) (ready : IsReady c) where
   none_run = record {
     more_ids = λ x id temp. omega arith;
     more_temps = λ x id temp. omega arith;
-    runs = λ x id temp p s w l e low so time has fit. record { to = s; there = reaches_here c s w id temp (p + 0) l (e ∙ omega arith) so }
+    runs = λ x id temp p s w l e low so time has fit. record { to = s; there = reaches_here c s w id temp (p + 0) l (e ∙ omega arith) so };
   }
 
   -- a write to the buffer
@@ -66,31 +66,31 @@ module _ (c : Context) (ready : IsReady c) where
     more_ids = λ x id temp. omega (arith, pair_more_ids c ready c.t.word c.t.word ca cb ma mb ra rb id temp);
     more_temps = λ x id temp. pair_more_temps c ready c.t.word c.t.word ca cb ma mb ra rb id temp;
     runs = λ x id temp p s w l e low so time has fit.
-      let a = ca id temp in
-      let q = pair_code a cb in
-      let chain = ins AccessChain (c.t.cell_pointer ∷ q.id ∷ c.t.buffer ∷ c.t.constant 0 ∷ q.left ∷ []) in
-      let tail = chain ∷ ins Store (q.id ∷ q.right ∷ []) ∷ [] in
-      let end = p + length (q.instructions ++ tail) in
-      let place : p + length q.instructions + 1 + 1 ≡ end = omega (arith, length-append q.instructions tail) in
-      let P = Lands c s w id temp end x in
-      let front = has_front c.m.code p q.instructions tail has in
-      let h = has_back c.m.code p q.instructions tail has in
-      let unsigned = not_signed c ready q.left (ra.typed id temp p (has_front c.m.code p a.instructions (cb a.id a.temp).instructions front)) in
-      let zero_unsigned = not_signed c ready (c.t.constant 0) (ready.linked.constant_typed 0 u) in
-      pair_follows c ready c.t.word c.t.word ca cb ma mb ra rb id temp p s w l e low so time front fit P (λ v y l2 w2. on_word v w2 (λ n. on_word y w2 (λ m. choose (nat_lt n (c.m.lengths 0 0)) (Went Next l2 (and_event w2 (Write 0 0 n m))) (Ends w2.events Undefined)))) (λ v y l2 w2 g.
-      word_follows c.m s w P v w2 (λ n. on_word y w2 (λ m. choose (nat_lt n (c.m.lengths 0 0)) (Went Next l2 (and_event w2 (Write 0 0 n m))) (Ends w2.events Undefined))) (λ n is_n.
-      word_follows c.m s w P y w2 (λ m. choose (nat_lt n (c.m.lengths 0 0)) (Went Next l2 (and_event w2 (Write 0 0 n m))) (Ends w2.events Undefined)) (λ m is_m.
+        let a = ca id temp in
+        let q = pair_code a cb in
+        let chain = ins AccessChain (c.t.cell_pointer ∷ q.id ∷ c.t.buffer ∷ c.t.constant 0 ∷ q.left ∷ []) in
+        let tail = chain ∷ ins Store (q.id ∷ q.right ∷ []) ∷ [] in
+        let end = p + length (q.instructions ++ tail) in
+        let place : p + length q.instructions + 1 + 1 ≡ end = omega (arith, length-append q.instructions tail) in
+        let P = Lands c s w id temp end x in
+        let front = has_front c.m.code p q.instructions tail has in
+        let h = has_back c.m.code p q.instructions tail has in
+        let unsigned = not_signed c ready q.left (ra.typed id temp p (has_front c.m.code p a.instructions (cb a.id a.temp).instructions front)) in
+        let zero_unsigned = not_signed c ready (c.t.constant 0) (ready.linked.constant_typed 0 u) in
+        pair_follows c ready c.t.word c.t.word ca cb ma mb ra rb id temp p s w l e low so time front fit P (λ v y l2 w2. on_word v w2 (λ n. on_word y w2 (λ m. choose (nat_lt n (c.m.lengths 0 0)) (Went Next l2 (and_event w2 (Write 0 0 n m))) (Ends w2.events Undefined)))) (λ v y l2 w2 g.
+        word_follows c.m s w P v w2 (λ n. on_word y w2 (λ m. choose (nat_lt n (c.m.lengths 0 0)) (Went Next l2 (and_event w2 (Write 0 0 n m))) (Ends w2.events Undefined))) (λ n is_n.
+        word_follows c.m s w P y w2 (λ m. choose (nat_lt n (c.m.lengths 0 0)) (Went Next l2 (and_event w2 (Write 0 0 n m))) (Ends w2.events Undefined)) (λ m is_m.
         let buffer = g.there.sound.known c.t.buffer ready.buffer_low ∙ ready.buffer in
         let nought = constant_known c ready g.to l2 0 g.there.sound u in
         let index = g.has_left ∙ ap (λ v. Some (Plain v)) is_n in
         choose_follows c.m s w P (nat_lt n (c.m.lengths 0 0)) (Went Next l2 (and_event w2 (Write 0 0 n m))) (Ends w2.events Undefined)
-          (λ lt.
-            let o = Cell 0 0 n in
-            let cell = result_reaches c chain q.id o g.there h.0 g.more (omega (arith, g.more)) (chain_cell c.m g.to c.t.cell_pointer q.id c.t.buffer (c.t.constant 0) q.left n buffer nought zero_unsigned index unsigned lt) in
-            let s1 = gives g.to q.id o in
-            let value = at_other g.to.ids q.id o q.right (λ e. absurd (omega (arith, g.low))) ∙ g.has_right ∙ ap (λ v. Some (Plain v)) is_m in
-            record { to = next s1; there = reaches_at c place (write_reaches c _ 0 0 n m cell h.1.0 (store_writes c.m s1 q.id q.right 0 0 n m (at_same g.to.ids q.id o) value)) })
-          (λ ge. over_on c.m s g.to w w2 w2.events Undefined g.there.comes (is_undefined c.m g.to w2 chain (here c g.there h.0) (chain_beyond c.m g.to c.t.cell_pointer q.id c.t.buffer (c.t.constant 0) q.left n buffer nought zero_unsigned index unsigned ge))))))
+        (λ lt.
+        let o = Cell 0 0 n in
+        let cell = result_reaches c chain q.id o g.there h.0 g.more (omega (arith, g.more)) (chain_cell c.m g.to c.t.cell_pointer q.id c.t.buffer (c.t.constant 0) q.left n buffer nought zero_unsigned index unsigned lt) in
+        let s1 = gives g.to q.id o in
+        let value = at_other g.to.ids q.id o q.right (λ e. absurd (omega (arith, g.low))) ∙ g.has_right ∙ ap (λ v. Some (Plain v)) is_m in
+        record { to = next s1; there = reaches_at c place (write_reaches c _ 0 0 n m cell h.1.0 (store_writes c.m s1 q.id q.right 0 0 n m (at_same g.to.ids q.id o) value)) })
+        (λ ge. over_on c.m s g.to w w2 w2.events Undefined g.there.comes (is_undefined c.m g.to w2 chain (here c g.there h.0) (chain_beyond c.m g.to c.t.cell_pointer q.id c.t.buffer (c.t.constant 0) q.left n buffer nought zero_unsigned index unsigned ge))))));
   }
 
   statement_runs : (s : Statement) → StatementUsed c.used s → StmtRuns c (λ x. statement_code c.t s) (statement_means c.m.lengths s)
@@ -102,17 +102,17 @@ module _ (c : Context) (ready : IsReady c) where
     more_ids = λ x id temp. let a = ca x id temp in omega (arith, ra.more_ids x id temp, rb.more_ids x a.id a.temp);
     more_temps = λ x id temp. let a = ca x id temp in omega (arith, ra.more_temps x id temp, rb.more_temps x a.id a.temp);
     runs = λ x id temp p s w l e low so time has fit.
-      let a = ca x id temp in
-      let b = cb x a.id a.temp in
-      let more = ra.more_ids x id temp in
-      let p1 = p + length a.instructions in
-      let p2 = p + length (a.instructions ++ b.instructions) in
-      let place : p1 + length b.instructions ≡ p2 = omega (arith, length-append a.instructions b.instructions) in
-      next_follows c s w id temp p1 p2 x (ma l w) mb
+        let a = ca x id temp in
+        let b = cb x a.id a.temp in
+        let more = ra.more_ids x id temp in
+        let p1 = p + length a.instructions in
+        let p2 = p + length (a.instructions ++ b.instructions) in
+        let place : p1 + length b.instructions ≡ p2 = omega (arith, length-append a.instructions b.instructions) in
+        next_follows c s w id temp p1 p2 x (ma l w) mb
         (ra.runs x id temp p s w l e low so time (has_front c.m.code p a.instructions b.instructions has) (omega (arith, rb.more_temps x a.id a.temp)))
         (λ l1 w1 g. lands_on c a.id a.temp p2 x (mb l1 w1) g.there more (ra.more_temps x id temp)
-          (lands_at c g.to w1 a.id a.temp (p1 + length b.instructions) p2 x (mb l1 w1) place
-            (rb.runs x a.id a.temp p1 g.to w1 l1 g.there.place (omega (arith, more)) g.there.sound (omega (arith, g.there.less)) (has_back c.m.code p a.instructions b.instructions has) fit)))
+        (lands_at c g.to w1 a.id a.temp (p1 + length b.instructions) p2 x (mb l1 w1) place
+        (rb.runs x a.id a.temp p1 g.to w1 l1 g.there.place (omega (arith, more)) g.there.sound (omega (arith, g.there.less)) (has_back c.m.code p a.instructions b.instructions has) fit)));
   }
 
   pub statements_run : (ss : List Statement) → StatementsUsed c.used ss → StmtRuns c (λ x. statements_code c.t ss) (statements_mean c.m.lengths ss)
