@@ -157,7 +157,7 @@ module _ (home : List ℕ) (p : Shader) (ids : Ids) (lengths : ℕ → ℕ → �
       let back = ins Return [] ∷ ins FunctionEnd [] ∷ [] in
       let names = statements_used (used home p) p.statements [] (λ c h. h) in
       let runs = (statements_run c (context_ready n) p.statements names).runs x (e + 4) 0 from ready_state w (parameter ∷ [])
-      (ap (λ n. n + 1 + 1 + 1 + 1) (starts home p)) (omega arith) (parameter_sound n) (omega arith)
+      (record { place = ap (λ n. n + 1 + 1 + 1 + 1) (starts home p); low = omega arith; sound = parameter_sound n; time = omega arith })
       (has_front m.code from body back has) (omega (arith, statements_need_none (tables p) p.statements (e + 4) 0)) in
       ended c (start m) ready_state w (e + 4) (from + length body) x (prologue_runs w) refl (has_back m.code from body back has).0
       (statements_mean lengths p.statements (parameter ∷ []) w) runs ok

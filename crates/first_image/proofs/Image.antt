@@ -100,21 +100,14 @@ module _ (home : List ℕ) (p : Shader) where
       (numbered_on (more_types a n) (nulls k ++ variables n b) (n + 15) k e (more_types_numbered a n)
       (numbered_on (nulls k) (variables n b) k b e (nulls_numbered k) (variables_numbered n b))))
 
+  body_numbered : Numbered (e + 4) (body.instructions ++ ins Return [] ∷ ins FunctionEnd [] ∷ []) body.id
+  body_numbered = numbered_on body.instructions (ins Return [] ∷ ins FunctionEnd [] ∷ []) (e + 4) body.id body.id (statements_numbered (tables p) p.statements (e + 4) 0) refl
+
+  rest_numbered : Numbered (e + 1 + 1 + 1 + 1) (body.instructions ++ ins Return [] ∷ ins FunctionEnd [] ∷ []) body.id
+  rest_numbered = subst (λ j. Numbered j (body.instructions ++ ins Return [] ∷ ins FunctionEnd [] ∷ []) body.id) (omega arith) body_numbered
+
   entry_numbered : Numbered e (entry_code p) body.id
-  entry_numbered = (
-    refl,
-    (
-      refl,
-      (
-        omega arith,
-        (
-          omega arith,
-          subst (λ j. Numbered j (body.instructions ++ ins Return [] ∷ ins FunctionEnd [] ∷ []) body.id) (omega arith)
-              (numbered_on body.instructions (ins Return [] ∷ ins FunctionEnd [] ∷ []) (e + 4) body.id body.id (statements_numbered (tables p) p.statements (e + 4) 0) refl),
-        ),
-      ),
-    ),
-  )
+  entry_numbered = (refl, (refl, (omega arith, (omega arith, rest_numbered))))
 
   after_constants_numbered : Numbered a after_constants body.id
   after_constants_numbered = numbered_on before_entry (entry_code p) a e body.id before_entry_numbered entry_numbered
