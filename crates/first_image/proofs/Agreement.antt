@@ -28,7 +28,7 @@ module _ (home : List ℕ) (p : Shader) where
     follow = λ ids lengths answers n. let f = follows ids lengths answers n in (f.0, f.2);
     are_followed = λ ids lengths answers m. (m, reached ids lengths answers m);
     never_stuck = λ ids lengths answers m stuck. ⊎_elim
-      (λ same. never_stuck p ids lengths answers m (sym (ap (λ (o : Outcome). o.ending) same) ∙ stuck))
-      (λ out. absurd (let e : Stuck ≡ Out = sym stuck ∙ out.0 in cc))
-      (reached ids lengths answers m)
+        (λ same. never_stuck p ids lengths answers m (sym (ap (λ (o : Outcome). o.ending) same) ∙ stuck))
+        (λ out. absurd (let e : Stuck ≡ Out = sym stuck ∙ out.0 in cc))
+        (reached ids lengths answers m);
   }

@@ -54,10 +54,11 @@ module _ (used : ℕ → Bool) where
   statement_used : (s : Statement) (ks : List ℕ) → ((n : ℕ) → contains n (statement_constants s ks) ≡ true → used n ≡ true) → StatementUsed used s
   statement_used s ks f =
       let values = sum_constants s.value ks in
-      let both = sum_constants s.index values in
-      (f 0 (insert_has 0 both),
+      let both = sum_constants s.index values in (
+        f 0 (insert_has 0 both),
         sum_used s.index values (λ n h. f n (insert_keeps n 0 both h)),
-        sum_used s.value ks (λ n h. f n (insert_keeps n 0 both (sum_keeps s.index values n h))))
+        sum_used s.value ks (λ n h. f n (insert_keeps n 0 both (sum_keeps s.index values n h))),
+      )
 
   pub statements_used : (ss : List Statement) (ks : List ℕ) → ((n : ℕ) → contains n (statements_constants ss ks) ≡ true → used n ≡ true) → StatementsUsed used ss
   statements_used [] ks f = tt

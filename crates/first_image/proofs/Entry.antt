@@ -100,8 +100,18 @@ module _ (home : List ℕ) (p : Shader) (ids : Ids) (lengths : ℕ → ℕ → �
   -- the entry as a call that runs, with a clock of n
   abbrev context : ℕ → Context
   context n = record {
-    m = m; t = tables p; base = e + 4; ids = loaded.ids; temps = 0; level = 0; count = 1;
-    at_level = λ i. 0; at_variable = λ i. e + 2 + i; lent = λ k x. false; used = used home p; depth = suc n
+    m = m;
+    t = tables p;
+    base = e + 4;
+    ids = loaded.ids;
+    temps = 0;
+    level = 0;
+    count = 1;
+    at_level = λ i. 0;
+    at_variable = λ i. e + 2 + i;
+    lent = λ k x. false;
+    used = used home p;
+    depth = suc n;
   }
 
   context_ready : (n : ℕ) → IsReady (context n)
@@ -112,15 +122,16 @@ module _ (home : List ℕ) (p : Shader) (ids : Ids) (lengths : ℕ → ℕ → �
     constant = λ c u. globals_loaded ((tables p).constant c) (omega (arith, constant_below home p c u)) ∙ constant_found home p c u;
     constant_low = λ c u. omega (arith, constant_below home p c u);
     local_is = elim [
-        zero ↦ λ lt. subst (λ y. loaded.ids y ≡ Some (Path (Local 0 y) [])) (omega arith) pointer_loaded
-      | suc i ↦ λ lt. absurd (omega arith) ];
+      | zero ↦ λ lt. subst (λ y. loaded.ids y ≡ Some (Path (Local 0 y) [])) (omega arith) pointer_loaded
+      | suc i ↦ λ lt. absurd (omega arith)
+    ];
     local_low = λ i lt. omega arith;
     temporary_is = λ k lt. absurd (omega arith);
     temporaries_low = omega arith;
     apart = λ i j li lj ne. inr (λ e. ne (omega arith));
     apart_temporary = λ i k lt. inr (λ e. absurd (omega arith));
     levels = λ i lt. omega arith;
-    lent_is = λ i lt low. absurd (omega arith)
+    lent_is = λ i lt low. absurd (omega arith);
   }
 
   parameter_sound : (n : ℕ) → Sound (context n) ready_state (parameter ∷ [])
@@ -129,8 +140,9 @@ module _ (home : List ℕ) (p : Shader) (ids : Ids) (lengths : ℕ → ℕ → �
     level = refl;
     count = refl;
     locals = elim [
-        zero ↦ λ v is. ap (λ x. ready_state.memory 0 x) (omega arith) ∙ put_same loaded.memory 0 (e + 2) parameter ∙ some_is is
-      | suc i ↦ λ v is. absurd cc ]
+      | zero ↦ λ v is. ap (λ x. ready_state.memory 0 x) (omega arith) ∙ put_same loaded.memory 0 (e + 2) parameter ∙ some_is is
+      | suc i ↦ λ v is. absurd cc
+    ];
   }
 
   -- the words end as the source does, after at least as many steps as the clock has units
@@ -145,7 +157,7 @@ module _ (home : List ℕ) (p : Shader) (ids : Ids) (lengths : ℕ → ℕ → �
       let back = ins Return [] ∷ ins FunctionEnd [] ∷ [] in
       let names = statements_used (used home p) p.statements [] (λ c h. h) in
       let runs = (statements_run c (context_ready n) p.statements names).runs x (e + 4) 0 from ready_state w (parameter ∷ [])
-            (ap (λ n. n + 1 + 1 + 1 + 1) (starts home p)) (omega arith) (parameter_sound n) (omega arith)
-            (has_front m.code from body back has) (omega (arith, statements_need_none (tables p) p.statements (e + 4) 0)) in
+      (record { place = ap (λ n. n + 1 + 1 + 1 + 1) (starts home p); low = omega arith; sound = parameter_sound n; time = omega arith })
+      (has_front m.code from body back has) (omega (arith, statements_need_none (tables p) p.statements (e + 4) 0)) in
       ended c (start m) ready_state w (e + 4) (from + length body) x (prologue_runs w) refl (has_back m.code from body back has).0
-        (statements_mean lengths p.statements (parameter ∷ []) w) runs ok
+      (statements_mean lengths p.statements (parameter ∷ []) w) runs ok

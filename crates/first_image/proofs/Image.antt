@@ -96,15 +96,18 @@ module _ (home : List ℕ) (p : Shader) where
   before_entry_numbered : Numbered a before_entry e
   before_entry_numbered =
       numbered_on (buffer_types a) (pointer_types n ++ (more_types a n ++ (nulls k ++ variables n b))) a n e (buffer_types_numbered a)
-        (numbered_on (pointer_types n) (more_types a n ++ (nulls k ++ variables n b)) n (n + 15) e (pointer_types_numbered n)
-          (numbered_on (more_types a n) (nulls k ++ variables n b) (n + 15) k e (more_types_numbered a n)
-            (numbered_on (nulls k) (variables n b) k b e (nulls_numbered k) (variables_numbered n b))))
+      (numbered_on (pointer_types n) (more_types a n ++ (nulls k ++ variables n b)) n (n + 15) e (pointer_types_numbered n)
+      (numbered_on (more_types a n) (nulls k ++ variables n b) (n + 15) k e (more_types_numbered a n)
+      (numbered_on (nulls k) (variables n b) k b e (nulls_numbered k) (variables_numbered n b))))
+
+  body_numbered : Numbered (e + 4) (body.instructions ++ ins Return [] ∷ ins FunctionEnd [] ∷ []) body.id
+  body_numbered = numbered_on body.instructions (ins Return [] ∷ ins FunctionEnd [] ∷ []) (e + 4) body.id body.id (statements_numbered (tables p) p.statements (e + 4) 0) refl
+
+  rest_numbered : Numbered (e + 1 + 1 + 1 + 1) (body.instructions ++ ins Return [] ∷ ins FunctionEnd [] ∷ []) body.id
+  rest_numbered = subst (λ j. Numbered j (body.instructions ++ ins Return [] ∷ ins FunctionEnd [] ∷ []) body.id) (omega arith) body_numbered
 
   entry_numbered : Numbered e (entry_code p) body.id
-  entry_numbered =
-      (refl, (refl, (omega arith, (omega arith,
-        subst (λ j. Numbered j (body.instructions ++ ins Return [] ∷ ins FunctionEnd [] ∷ []) body.id) (omega arith)
-          (numbered_on body.instructions (ins Return [] ∷ ins FunctionEnd [] ∷ []) (e + 4) body.id body.id (statements_numbered (tables p) p.statements (e + 4) 0) refl)))))
+  entry_numbered = (refl, (refl, (omega arith, (omega arith, rest_numbered))))
 
   after_constants_numbered : Numbered a after_constants body.id
   after_constants_numbered = numbered_on before_entry (entry_code p) a e body.id before_entry_numbered entry_numbered
@@ -112,7 +115,7 @@ module _ (home : List ℕ) (p : Shader) where
   code_numbered : Numbered 1 code body.id
   code_numbered =
       numbered_on before_constants (constants_code 13 ks ++ after_constants) 1 13 body.id plain_types_numbered
-        (numbered_on (constants_code 13 ks) after_constants 13 a body.id (constants_numbered 13 ks) after_constants_numbered)
+      (numbered_on (constants_code 13 ks) after_constants 13 a body.id (constants_numbered 13 ks) after_constants_numbered)
 
   pub found_place : (q r : ℕ) (i : Instruction) → slice_get code q ≡ Some i → result_of i.op i.operands ≡ Some r → place_of code r 0 ≡ Some q
   found_place q r i h f = place_found code 1 body.id q 0 r i code_numbered h f ∙ ap (λ q. Some q) (omega arith)
@@ -185,7 +188,7 @@ module _ (home : List ℕ) (p : Shader) where
   array_found =
       let rest = ins TypeStruct ((a + 1) ∷ a ∷ []) ∷ (pointer_types n ++ (more_types a n ++ (nulls k ++ (variables n b ++ entry_code p)))) in
       found_shape code [] rest (ins TypeRuntimeArray (a ∷ 4 ∷ [])) a a body.id constant_globals refl refl refl after_constants_numbered (Unbounded 4 (Words false))
-        (ap (λ o. on_shape o (λ s. Unbounded (or_zero (decoration code a 6)) s)) uint_before ∙ ap (λ o. IsType (Unbounded (or_zero o) (Words false))) stride_found)
+      (ap (λ o. on_shape o (λ s. Unbounded (or_zero (decoration code a 6)) s)) uint_before ∙ ap (λ o. IsType (Unbounded (or_zero o) (Words false))) stride_found)
 
   wrapper_found : (declared code after_constants constant_globals).shapes (a + 1) ≡ Some row
   wrapper_found =
@@ -193,9 +196,9 @@ module _ (home : List ℕ) (p : Shader) where
       let rest = pointer_types n ++ (more_types a n ++ (nulls k ++ (variables n b ++ entry_code p))) in
       let i = ins TypeStruct ((a + 1) ∷ a ∷ []) in
       found_shape code before rest i (a + 1) a body.id constant_globals refl refl refl after_constants_numbered row
-        (ap (λ o. IsType (Fields (if_some o NoField (λ s. Field (or_zero (offset code (a + 1) 0)) s NoField))))
-          (shape_before code before rest i (a + 1) a body.id constant_globals refl refl refl after_constants_numbered a (Unbounded 4 (Words false)) (omega arith) array_found)
-        ∙ ap (λ o. IsType (Fields (Field (or_zero o) (Unbounded 4 (Words false)) NoField))) offset_found)
+      (ap (λ o. IsType (Fields (if_some o NoField (λ s. Field (or_zero (offset code (a + 1) 0)) s NoField))))
+      (shape_before code before rest i (a + 1) a body.id constant_globals refl refl refl after_constants_numbered a (Unbounded 4 (Words false)) (omega arith) array_found)
+      ∙ ap (λ o. IsType (Fields (Field (or_zero o) (Unbounded 4 (Words false)) NoField))) offset_found)
 
   pointer_found : (declared code after_constants constant_globals).shapes (n + 15) ≡ Some (PointerTo row)
   pointer_found =
@@ -203,8 +206,8 @@ module _ (home : List ℕ) (p : Shader) where
       let rest = ins TypeFunction ((n + 16) ∷ 1 ∷ []) ∷ (nulls k ++ (variables n b ++ entry_code p)) in
       let i = ins TypePointer ((n + 15) ∷ 12 ∷ (a + 1) ∷ []) in
       found_shape code before rest i (n + 15) a body.id constant_globals refl refl refl after_constants_numbered (PointerTo row)
-        (ap (λ o. on_shape o (λ s. PointerTo s))
-          (shape_before code before rest i (n + 15) a body.id constant_globals refl refl refl after_constants_numbered (a + 1) row (omega arith) wrapper_found))
+      (ap (λ o. on_shape o (λ s. PointerTo s))
+      (shape_before code before rest i (n + 15) a body.id constant_globals refl refl refl after_constants_numbered (a + 1) row (omega arith) wrapper_found))
 
   -- the buffer's variable
   pub buffer_found : globals.ids b ≡ Some (Block 0 0 row)
@@ -214,10 +217,10 @@ module _ (home : List ℕ) (p : Shader) where
       let i = ins Variable ((n + 15) ∷ b ∷ 12 ∷ []) in
       ap (λ g. g.ids b) globals_are
       ∙ found_id code before rest i b a body.id constant_globals refl refl refl after_constants_numbered (Block 0 0 row)
-          (ap (λ o. global_variable code b 12 o)
-            (shape_before code before rest i b a body.id constant_globals refl refl refl after_constants_numbered (n + 15) (PointerTo row) (omega arith) pointer_found)
-          ∙ ap (λ o. IsValue (Block (or_zero o) (or_zero (decoration code b 33)) row)) set_found
-          ∙ ap (λ o. IsValue (Block 0 (or_zero o) row)) binding_found)
+      (ap (λ o. global_variable code b 12 o)
+      (shape_before code before rest i b a body.id constant_globals refl refl refl after_constants_numbered (n + 15) (PointerTo row) (omega arith) pointer_found)
+      ∙ ap (λ o. IsValue (Block (or_zero o) (or_zero (decoration code b 33)) row)) set_found
+      ∙ ap (λ o. IsValue (Block 0 (or_zero o) row)) binding_found)
 
   -- the variable of the invocation's global id
   pub input_found : globals.ids (b + 1) ≡ Some (Path (Input 28) [])
@@ -225,7 +228,7 @@ module _ (home : List ℕ) (p : Shader) where
       let before = buffer_types a ++ (pointer_types n ++ (more_types a n ++ (nulls k ++ ins Variable ((n + 15) ∷ b ∷ 12 ∷ []) ∷ []))) in
       ap (λ g. g.ids (b + 1)) globals_are
       ∙ found_id code before (entry_code p) (ins Variable ((n + 13) ∷ (b + 1) ∷ 1 ∷ [])) (b + 1) a body.id constant_globals refl refl refl after_constants_numbered (Path (Input 28) [])
-          (ap (λ o. IsValue (Path (Input (or_zero o)) [])) built_in_found)
+      (ap (λ o. IsValue (Path (Input (or_zero o)) [])) built_in_found)
 
   -- the constants
   abbrev pub used : ℕ → Bool
@@ -249,7 +252,7 @@ module _ (home : List ℕ) (p : Shader) where
     signed_is = λ id. refl;
     word = uint_found;
     constant_typed = λ c u.
-      let id = 13 + position c ks in
-      let at_constant = constants_stand code c 13 constants_place ks (has_front code constants_place (constants_code 13 ks) after_constants has_constants) u in
-      record { by = ins Constant (4 ∷ id ∷ c ∷ []); defined = found_definition at_constant.0 id (ins Constant (4 ∷ id ∷ c ∷ [])) at_constant.1 refl; typed = refl }
+        let id = 13 + position c ks in
+        let at_constant = constants_stand code c 13 constants_place ks (has_front code constants_place (constants_code 13 ks) after_constants has_constants) u in
+        record { by = ins Constant (4 ∷ id ∷ c ∷ []); defined = found_definition at_constant.0 id (ins Constant (4 ∷ id ∷ c ∷ [])) at_constant.1 refl; typed = refl };
   }

@@ -51,7 +51,7 @@ stays_ids code (i ∷ is) n n' j g h lt =
     let x = meaning_of code g i.op i.operands in
     let g1 = add o x g in
     cond_shows (λ g. g.ids j) (is_function i.op) g (declared code is g1)
-      (counts_rest ((declared code is g1).ids j) (g1.ids j) o n j (λ n. Numbered n is n') lt (λ n lt h. stays_ids code is n n' j g1 h lt) h ∙ add_ids o x g n j (λ n. Numbered n is n') lt h)
+    (counts_rest ((declared code is g1).ids j) (g1.ids j) o n j (λ n. Numbered n is n') lt (λ n lt h. stays_ids code is n n' j g1 h lt) h ∙ add_ids o x g n j (λ n. Numbered n is n') lt h)
 
 pub stays_shapes : (code is : List Instruction) (n n' j : ℕ) (g : Globals) → Numbered n is n' → j < n → (declared code is g).shapes j ≡ g.shapes j
 stays_shapes code [] n n' j g h lt = refl
@@ -60,7 +60,7 @@ stays_shapes code (i ∷ is) n n' j g h lt =
     let x = meaning_of code g i.op i.operands in
     let g1 = add o x g in
     cond_shows (λ g. g.shapes j) (is_function i.op) g (declared code is g1)
-      (counts_rest ((declared code is g1).shapes j) (g1.shapes j) o n j (λ n. Numbered n is n') lt (λ n lt h. stays_shapes code is n n' j g1 h lt) h ∙ add_shapes o x g n j (λ n. Numbered n is n') lt h)
+    (counts_rest ((declared code is g1).shapes j) (g1.shapes j) o n j (λ n. Numbered n is n') lt (λ n lt h. stays_shapes code is n n' j g1 h lt) h ∙ add_shapes o x g n j (λ n. Numbered n is n') lt h)
 
 -- ---- one instruction among the others
 

@@ -79,8 +79,8 @@ place_found (j ∷ is) n n' zero from r i h e f =
     stops (result_of j.op j.operands) r (Some from) (place_of is r (from + 1)) (ap (λ j. result_of j.op j.operands) (some_is e) ∙ f) ∙ ap (λ q. Some q) (omega arith)
 place_found (j ∷ is) n n' (suc p) from r i h e f =
     passes (result_of j.op j.operands) n r (λ n. Numbered n is n') (Some from) (place_of is r (from + 1)) (Some (from + suc p))
-      (λ n h. numbered_above is n n' p r i h e f)
-      (λ n h. place_found is n n' p (from + 1) r i h e f ∙ ap (λ q. Some q) (omega arith)) h
+    (λ n h. numbered_above is n n' p r i h e f)
+    (λ n h. place_found is n n' p (from + 1) r i h e f ∙ ap (λ q. Some q) (omega arith)) h
 
 pub definition_found : (is : List Instruction) (n n' p r : ℕ) (i : Instruction) → Numbered n is n' → slice_get is p ≡ Some i → result_of i.op i.operands ≡ Some r → definition_of is r ≡ Some i
 definition_found [] n n' p r i h e f = absurd cc
@@ -88,8 +88,8 @@ definition_found (j ∷ is) n n' zero r i h e f =
     stops (result_of j.op j.operands) r (Some j) (definition_of is r) (ap (λ j. result_of j.op j.operands) (some_is e) ∙ f) ∙ e
 definition_found (j ∷ is) n n' (suc p) r i h e f =
     passes (result_of j.op j.operands) n r (λ n. Numbered n is n') (Some j) (definition_of is r) (Some i)
-      (λ n h. numbered_above is n n' p r i h e f)
-      (λ n h. definition_found is n n' p r i h e f) h
+    (λ n h. numbered_above is n n' p r i h e f)
+    (λ n h. definition_found is n n' p r i h e f) h
 
 -- ---- the ids of each template
 
@@ -120,7 +120,7 @@ statement_numbered : (t : Tables) (s : Statement) (id temp : ℕ) → Numbered i
 statement_numbered t s id temp =
     let q = pair_code (sum_code t s.index id temp) (sum_code t s.value) in
     numbered_on q.instructions (ins AccessChain (t.cell_pointer ∷ q.id ∷ t.buffer ∷ t.constant 0 ∷ q.left ∷ []) ∷ ins Store (q.id ∷ q.right ∷ []) ∷ []) id q.id (q.id + 1)
-      (pair_numbered (sum_code t s.index id temp) (sum_code t s.value) id (sum_numbered t s.index id temp) (sum_numbered t s.value)) (refl, refl)
+    (pair_numbered (sum_code t s.index id temp) (sum_code t s.value) id (sum_numbered t s.index id temp) (sum_numbered t s.value)) (refl, refl)
 
 pub statements_numbered : (t : Tables) (ss : List Statement) (id temp : ℕ) → Numbered id (statements_code t ss id temp).instructions (statements_code t ss id temp).id
 statements_numbered t [] id temp = refl

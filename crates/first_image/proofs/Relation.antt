@@ -79,6 +79,13 @@ pub record Sound (c : Context) (s : State) (l : List Value) : Type 0 where
   pub count : length l ≡ c.count
   pub locals : (i : ℕ) (v : Value) → slice_get l i ≡ Some v → s.memory (c.at_level i) (c.at_variable i) ≡ v
 
+-- code can run from here, at a place, with ids from this one on
+pub record Begins (c : Context) (id p : ℕ) (s : State) (w : World) (l : List Value) : Type 0 where
+  pub place : s.place ≡ p
+  pub low : c.base ≤ id
+  pub sound : Sound c s l
+  pub time : w.clock < c.depth
+
 -- what a later state has kept: the ids and temporaries below these, the callers, and their variables but for those lent
 pub record Later (c : Context) (id temp : ℕ) (s s' : State) : Type 0 where
   pub ids : (i : ℕ) → i < id → s'.ids i ≡ s.ids i
@@ -114,7 +121,7 @@ pub record ExprRuns (c : Context) (type : ℕ) (code : ℕ → ℕ → Code) (me
   pub more_ids : (id temp : ℕ) → id ≤ (code id temp).id
   pub more_temps : (id temp : ℕ) → temp ≤ (code id temp).temp
   pub typed : (id temp p : ℕ) → HasAt c.m.code p (code id temp).instructions → HasType c.m (code id temp).value type
-  pub runs : (id temp p : ℕ) (s : State) (w : World) (l : List Value) → s.place ≡ p → c.base ≤ id → Sound c s l → w.clock < c.depth → HasAt c.m.code p (code id temp).instructions → (code id temp).temp ≤ c.temps → Follows c.m s w (Gives c s w id temp (p + length (code id temp).instructions) (code id temp).value (code id temp).id) (means l w)
+  pub runs : (id temp p : ℕ) (s : State) (w : World) (l : List Value) → Begins c id p s w l → HasAt c.m.code p (code id temp).instructions → (code id temp).temp ≤ c.temps → Follows c.m s w (Gives c s w id temp (p + length (code id temp).instructions) (code id temp).value (code id temp).id) (means l w)
 
 -- the labels to which a statement may jump: out of the loop, and to its next turn
 pub record Exits : Type 0 where
@@ -149,7 +156,7 @@ Lands c s w id temp p x (Returned (Some v)) l w' = Leaves c s w id temp v l w'
 pub record StmtRuns (c : Context) (code : Exits → ℕ → ℕ → Piece) (means : List Value → World → Result Flow) : Type 0 where
   pub more_ids : (x : Exits) (id temp : ℕ) → id ≤ (code x id temp).id
   pub more_temps : (x : Exits) (id temp : ℕ) → temp ≤ (code x id temp).temp
-  pub runs : (x : Exits) (id temp p : ℕ) (s : State) (w : World) (l : List Value) → s.place ≡ p → c.base ≤ id → Sound c s l → w.clock < c.depth → HasAt c.m.code p (code x id temp).instructions → (code x id temp).temp ≤ c.temps → Follows c.m s w (Lands c s w id temp (p + length (code x id temp).instructions) x) (means l w)
+  pub runs : (x : Exits) (id temp p : ℕ) (s : State) (w : World) (l : List Value) → Begins c id p s w l → HasAt c.m.code p (code x id temp).instructions → (code x id temp).temp ≤ c.temps → Follows c.m s w (Lands c s w id temp (p + length (code x id temp).instructions) x) (means l w)
 
 -- ---- how arrivals grow
 
@@ -162,18 +169,25 @@ module _ (c : Context) where
     ids = λ k lt. b.ids k (omega arith) ∙ a.ids k lt;
     temps = λ k lt. b.temps k (omega arith) ∙ a.temps k lt;
     below = b.below ∙ a.below;
-    others = λ k x lt free. b.others k x lt free ∙ a.others k x lt free
+    others = λ k x lt free. b.others k x lt free ∙ a.others k x lt free;
   }
 
   -- a state reaches itself
-  pub reaches_here : (s : State) (w : World) (id temp p : ℕ) (l : List Value) → s.place ≡ p → Sound c s l → Reaches c s w id temp p l w s
-  reaches_here s w id temp p l e so = record { comes = comes_refl c.m s w; place = e; later = later_refl id temp s; sound = so; less = omega arith }
+  pub reaches_here : {s : State} {w : World} {id p : ℕ} {l : List Value} (temp : ℕ) → Begins c id p s w l → Reaches c s w id temp p l w s
+  reaches_here {s = s} {w = w} {id = id} temp from = record { comes = comes_refl c.m s w; place = from.place; later = later_refl id temp s; sound = from.sound; less = omega arith }
+
+  -- code can run on from where a run has come to
+  pub begins_on : {s s1 : State} {w w1 : World} {id temp p p1 : ℕ} {l l1 : List Value} (id1 : ℕ) → Begins c id p s w l → id ≤ id1 → Reaches c s w id temp p1 l1 w1 s1 → Begins c id1 p1 s1 w1 l1
+  begins_on id1 from more a = record { place = a.place; low = omega (arith, from.low); sound = a.sound; time = omega (arith, from.time, a.less) }
 
   -- one part of the code and then another
   pub reaches_on : {s s1 s2 : State} {w w1 w2 : World} {id temp id1 temp1 p1 p2 : ℕ} {l1 l2 : List Value} → Reaches c s w id temp p1 l1 w1 s1 → id ≤ id1 → temp ≤ temp1 → Reaches c s1 w1 id1 temp1 p2 l2 w2 s2 → Reaches c s w id temp p2 l2 w2 s2
   reaches_on {s = s} {s1 = s1} {s2 = s2} {w = w} {w1 = w1} {w2 = w2} {id = id} {temp = temp} {id1 = id1} {temp1 = temp1} a i t b = record {
-    comes = comes_on c.m s s1 s2 w w1 w2 a.comes b.comes; place = b.place;
-    later = later_on id temp id1 temp1 s s1 s2 i t a.later b.later; sound = b.sound; less = omega (arith, a.less, b.less)
+    comes = comes_on c.m s s1 s2 w w1 w2 a.comes b.comes;
+    place = b.place;
+    later = later_on id temp id1 temp1 s s1 s2 i t a.later b.later;
+    sound = b.sound;
+    less = omega (arith, a.less, b.less);
   }
 
   -- the place, counted in another way
@@ -191,11 +205,17 @@ module _ (c : Context) where
     place = ap (λ p. p + 1) a.place;
     later = record {
       ids = λ k lt. at_other s1.ids r o k (λ e. absurd (omega arith)) ∙ a.later.ids k lt;
-      temps = a.later.temps; below = a.later.below; others = a.later.others };
+      temps = a.later.temps;
+      below = a.later.below;
+      others = a.later.others;
+    };
     sound = record {
       known = λ k lt. at_other s1.ids r o k (λ e. absurd (omega arith)) ∙ a.sound.known k lt;
-      level = a.sound.level; count = a.sound.count; locals = a.sound.locals };
-    less = a.less
+      level = a.sound.level;
+      count = a.sound.count;
+      locals = a.sound.locals;
+    };
+    less = a.less;
   }
 
   -- one instruction more, which writes a word of a buffer
@@ -205,5 +225,5 @@ module _ (c : Context) where
     place = ap (λ p. p + 1) a.place;
     later = record { ids = a.later.ids; temps = a.later.temps; below = a.later.below; others = a.later.others };
     sound = record { known = a.sound.known; level = a.sound.level; count = a.sound.count; locals = a.sound.locals };
-    less = a.less
+    less = a.less;
   }
