@@ -46,10 +46,13 @@ pub trait Files {
     /// The bytes of a name, if they are at most `limit`. A want of memory may come at any time.
     fn read(&mut self, alloc: Global, name: &Name, limit: usize) -> Result<Found, FileFault>
         // The answer tells what is held. `TooLong` comes with the bytes, which are more than the limit.
-        ensures bytes { (m : Contents) → told self.old ≡ Some m → IfBytes result (λ b. m name.now ≡ Some b) }
+        ensures bytes { (m : Contents) → told self.old ≡ Some m
+            → IfBytes result (λ b. m name.now ≡ Some b) }
         ensures within_limit { IfBytes result (λ b. length b ≤ limit) }
-        ensures absent { (m : Contents) → told self.old ≡ Some m → OnAbsent result (m name.now ≡ None) }
-        ensures too_long { (m : Contents) → told self.old ≡ Some m → OnTooLong result (IsLonger limit (m name.now)) }
+        ensures absent { (m : Contents) → told self.old ≡ Some m
+            → OnAbsent result (m name.now ≡ None) }
+        ensures too_long { (m : Contents) → told self.old ≡ Some m
+            → OnTooLong result (IsLonger limit (m name.now)) }
 
         // A fault is answered only where it was counted.
         ensures failed { OnFailed result (Rose (read_faults self.old) (read_faults self.new)) }
@@ -62,7 +65,8 @@ pub trait Files {
     /// Gives a name these bytes, in place of what it had.
     fn put(&mut self, name: &Name, bytes: &[u8]) -> Result<(), FileFault>
         // What is held afterwards, after each answer.
-        ensures done { (m : Contents) → told self.old ≡ Some m → OnOk result (told self.new ≡ Some (with_entry m name.now bytes.now)) }
+        ensures done { (m : Contents) → told self.old ≡ Some m
+            → OnOk result (told self.new ≡ Some (with_entry m name.now bytes.now)) }
         ensures partly { (m : Contents) → told self.old ≡ Some m
             → OnFailed result ((n : Contents) × (told self.new ≡ Some n) × Partly m name.now bytes.now n) }
         ensures unchanged { OnMemory result (told self.new ≡ told self.old) }

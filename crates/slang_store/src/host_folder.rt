@@ -116,7 +116,8 @@ fn read_up_to<I: Read>(input: &mut I, alloc: Global, limit: usize) -> Result<Fou
 fn read_more<I: Read>(input: &mut I, bytes: &mut Vec<u8>, room: usize) -> Result<usize, FileFault>
     ensures bound { IfOk result (λ n. n ≤ room + 1) }
     ensures moved { IfOk result (λ n. (piece : List ℕ) × (length piece ≡ n)
-        × (bytes.new.items ≡ bytes.old.items ++ piece) × Consumes (I.remaining input.old) (I.remaining input.new) piece) }
+        × (bytes.new.items ≡ bytes.old.items ++ piece)
+        × Consumes (I.remaining input.old) (I.remaining input.new) piece) }
     ensures end { IfOk result (λ n. n ≡ 0 → IsAtEnd (I.remaining input.new)) }
 {
     let mut piece = [0; PIECE];

@@ -5,6 +5,7 @@
 mod files;
 mod host_folder;
 mod host_out;
+mod laws;
 mod memory_files;
 mod memory_sink;
 mod sink;
@@ -14,6 +15,7 @@ mod tests;
 pub use files::{FileFault, Files, Found};
 pub use host_folder::HostFolder;
 pub use host_out::HostOut;
+pub use laws::an_entry_changes_one_name;
 pub use memory_files::MemoryFiles;
 pub use memory_sink::MemorySink;
 pub use sink::{Failed, Sink, write_all};

@@ -15,7 +15,6 @@ pub struct MemoryFiles {
 impl MemoryFiles {
     ghost use Rattle.std.specs.Prelude.{◌≡◌, ℕ, List, None};
     ghost use Rattle.std.specs.Option.{option_copied};
-    ghost use Rattle.std.specs.Option.{option_map};
     ghost use Rattle.slang_store.specs.Held.{held};
 
     /// Files that hold nothing yet.

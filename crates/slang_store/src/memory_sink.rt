@@ -7,7 +7,7 @@ use std::alloc::{AllocError, Global};
 use std::marker::Model;
 
 /// A sink in memory, with room for so many bytes. It tells all that it took. A contract sees the bytes, how many more
-/// fit, and the count of faults, which stays at the last number of a u64.
+/// fit, and the count of faults, which stays at the last value of a u64.
 #[derive(Drop)]
 pub struct MemorySink {
     bytes: Vec<u8>,
@@ -49,7 +49,8 @@ impl MemorySink {
 }
 
 impl Sink for MemorySink {
-    ghost use Rattle.std.specs.Prelude.{◌+◌, ◌-◌, ◌<◌, ◌≤◌, ◌↔◌, ◌++◌, Some, IfOk, OnErr, IsErr, length, min, take};
+    ghost use Rattle.std.specs.Prelude.{◌+◌, ◌-◌, ◌<◌, ◌≤◌, ◌↔◌, ◌++◌, Some, IfOk, OnErr, IsErr};
+    ghost use Rattle.std.specs.Prelude.{length, min, take};
     ghost use Rattle.slang_store.specs.Counts.{last_count};
 
     ghost taken = { λ sink. Some sink.bytes };
@@ -59,7 +60,8 @@ impl Sink for MemorySink {
     /// Takes as much of the piece as still fits.
     fn take(&mut self, piece: &[u8]) -> Result<usize, Failed>
         ensures full { IsErr result ↔ ((0 < length piece.now) × (self.old.left ≡ 0)) }
-        ensures counted { OnErr result (self.new ≡ record self.old { faults = min (self.old.faults + 1) last_count }) }
+        ensures counted { OnErr result
+            (self.new ≡ record self.old { faults = min (self.old.faults + 1) last_count }) }
         ensures amount { IfOk result (λ n. n ≡ min (length piece.now) self.old.left) }
         ensures bytes { IfOk result (λ n. self.new.bytes ≡ self.old.bytes ++ take n piece.now) }
         ensures room { IfOk result (λ n. self.new.left ≡ self.old.left - n) }

@@ -25,7 +25,8 @@ pub trait Sink {
         // At least one byte is taken of a piece that has one.
         ensures within { IfOk result (λ n. n ≤ length piece.now) }
         ensures moves { IfOk result (λ n. 0 < length piece.now → 0 < n) }
-        ensures ok { (b : List ℕ) → taken self.old ≡ Some b → IfOk result (λ n. taken self.new ≡ Some (b ++ take n piece.now)) }
+        ensures ok { (b : List ℕ) → taken self.old ≡ Some b
+            → IfOk result (λ n. taken self.new ≡ Some (b ++ take n piece.now)) }
 
         // A fault takes nothing, and is answered only where it was counted.
         ensures err { OnErr result (taken self.new ≡ taken self.old) }
@@ -36,7 +37,8 @@ pub trait Sink {
 /// Gives all of the bytes to a sink, piece by piece. It takes no memory. After a fault the sink has taken a part of
 /// the bytes, from their first on.
 pub fn write_all<S: Sink>(out: &mut S, bytes: &[u8]) -> Result<(), Failed>
-    ensures ok { (b : List ℕ) → S.taken out.old ≡ Some b → OnOk result (S.taken out.new ≡ Some (b ++ bytes.now)) }
+    ensures ok { (b : List ℕ) → S.taken out.old ≡ Some b
+        → OnOk result (S.taken out.new ≡ Some (b ++ bytes.now)) }
     ensures partly { (b : List ℕ) → S.taken out.old ≡ Some b
         → OnErr result ((p : List ℕ) × IsPrefixOf p bytes.now × (S.taken out.new ≡ Some (b ++ p))) }
     ensures failed { OnErr result (Rose (S.faults out.old) (S.faults out.new)) }
