@@ -1,5 +1,5 @@
 -- The token that is read at the front of a text is the one that its definition says.
-use Rattle.std.proofs.Common.{◌≡◌, ◌≢◌, ℕ, zero, suc, ◌+◌, ◌<◌, ◌≤◌, Bool, true, false, cond, eqb, not, ◌&&◌, ◌||◌, List, [], ◌∷◌, ◌++◌, length, take, drop, Option, Some, None, refl, sym, ap, subst, ◌∙◌, append_assoc, arith, ◌⊎◌, inl, inr}
+use Rattle.std.proofs.Common.{◌≡◌, ℕ, suc, ◌+◌, ◌<◌, Bool, true, false, cond, ◌||◌, List, [], ◌∷◌, ◌++◌, length, take, drop, Some, None, refl, sym, ap, subst, ◌∙◌, append_assoc, arith, ◌⊎◌, inl, inr}
 use Rattle.std.specs.Prelude.{◌==◌}
 use Rattle.std.specs.List.{list_all, prefix_len}
 use Rattle.std.proofs.lemmas.Bool.{and_parts, and_from, or_cases, eqb-true, false≢true, false_from_ne_true}
@@ -91,10 +91,10 @@ closed_stands : (inside rest : List ℕ) (x : Token × List ℕ) → list_all is
 closed_stands inside [] x h e = absurd cc
 closed_stands inside (b ∷ rest) x h e = elim (chosen (b == 34) (Some (Text inside, rest)) None (Some x) e) [
   | inl t ↦ subst (λ (y : Token × List ℕ). Stands (34 ∷ (inside ++ b ∷ rest)) y) (some_is (Text inside, rest) x t.1) (record {
-      parts = ap (λ (c : ℕ). 34 ∷ (inside ++ c ∷ rest)) (eqb-true b 34 t.0) ∙ ap (λ (bs : List ℕ). 34 ∷ bs) (sym (append_assoc inside (34 ∷ []) rest));
-      is_token = h;
-      is_whole = tt;
-    })
+    parts = ap (λ (c : ℕ). 34 ∷ (inside ++ c ∷ rest)) (eqb-true b 34 t.0) ∙ ap (λ (bs : List ℕ). 34 ∷ bs) (sym (append_assoc inside (34 ∷ []) rest));
+    is_token = h;
+    is_whole = tt;
+  })
   | inr f ↦ absurd (let g = f.1 in cc)
 ]
 
@@ -138,9 +138,9 @@ word_again b bytes rest h s =
     let n = prefix_len-front is_word_byte (b ∷ bytes) rest h s in
     let w = (and_parts (is_word_byte b) (list_all is_word_byte bytes) h).0 in
     let longest : longest_word (b ∷ (bytes ++ rest)) ≡ (Word (b ∷ bytes), rest) =
-        ap (λ (k : ℕ). (Word (take k (b ∷ (bytes ++ rest))), drop k (b ∷ (bytes ++ rest)))) n
-        ∙ (ap (λ (bs : List ℕ). (Word bs, drop (length (b ∷ bytes)) (b ∷ (bytes ++ rest)))) (take_at (b ∷ bytes) rest (length (b ∷ bytes)) refl)
-        ∙ ap (λ (bs : List ℕ). (Word (b ∷ bytes), bs)) (drop_at (b ∷ bytes) rest (length (b ∷ bytes)) refl)) in
+    ap (λ (k : ℕ). (Word (take k (b ∷ (bytes ++ rest))), drop k (b ∷ (bytes ++ rest)))) n
+    ∙ (ap (λ (bs : List ℕ). (Word bs, drop (length (b ∷ bytes)) (b ∷ (bytes ++ rest)))) (take_at (b ∷ bytes) rest (length (b ∷ bytes)) refl)
+    ∙ ap (λ (bs : List ℕ). (Word (b ∷ bytes), bs)) (drop_at (b ∷ bytes) rest (length (b ∷ bytes)) refl)) in
     ap (λ (t : Bool). cond t (Some (longest_word (b ∷ (bytes ++ rest)))) (cond (is_mark b) (Some (Mark b, bytes ++ rest)) (cond (b == 34) (quoted (bytes ++ rest)) None))) w
     ∙ ap (λ (x : Token × List ℕ). Some x) longest
 

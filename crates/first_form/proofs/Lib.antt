@@ -3,3 +3,5 @@ pub mod Decimals
 pub mod Cutting
 pub mod Steps
 pub mod Sums
+pub mod Bytes
+pub mod Whole

@@ -1,14 +1,14 @@
 -- Tokens one after the other: what is expected, and the cutting of a text.
-use Rattle.std.proofs.Common.{◌≡◌, ◌≢◌, ℕ, zero, suc, ◌+◌, ◌<◌, ◌≤◌, Bool, true, false, cond, eqb, List, [], ◌∷◌, ◌++◌, length, Option, Some, None, refl, sym, ap, subst, ◌∙◌, append_assoc, length-append, arith, ◌⊎◌, inl, inr}
-use Rattle.std.specs.Prelude.{◌==◌}
-use Rattle.std.specs.List.{list_all, sum_by}
-use Rattle.std.specs.Str.{bytes_eq}
+use Rattle.std.proofs.Common.{◌≡◌, ℕ, ◌+◌, ◌≤◌, Bool, true, false, cond, List, [], ◌∷◌, ◌++◌, length, Option, Some, None, refl, sym, ap, subst, ◌∙◌, append-nil, length-append, drop, arith}
+use Rattle.std.specs.List.{list_all, prefix_len, sum_by}
 use Rattle.std.proofs.lemmas.Bool.{eqb-true, eq-eqb, false≢true}
 use Rattle.std.proofs.lemmas.Slice.Eq.{bytes_eq-Decides}
-use Rattle.std.proofs.lemmas.List.Sums.{sum_by-cons}
-use Rattle.first_form.specs.Tokens.{Token, Word, Mark, Text, is_blank, spelling, Begins, IsCut}
-use Rattle.first_form.specs.Reading.{◌>>=◌, next, same_token, expect}
-use Rattle.first_form.proofs.Cutting.{next_begins, next_again, chosen}
+use Rattle.std.proofs.lemmas.List.{drop_all}
+use Rattle.std.proofs.lemmas.Option.{some_pair_parts}
+use Rattle.std.proofs.lemmas.List.Sums.{sum_by-cons, sum_by-append}
+use Rattle.first_form.specs.Tokens.{Token, Word, Mark, Text, is_blank, spelling, IsCut}
+use Rattle.first_form.specs.Reading.{◌>>=◌, token_at, next, same_token, expect}
+use Rattle.first_form.proofs.Cutting.{prefix_len-front, next_begins, next_again}
 
 -- ---- one token is another
 
@@ -100,18 +100,50 @@ read_cut text (t ∷ ts) end e b =
     let a = expect_first t ts text end e in
     (a.0, next_begins text t a.0 a.1, read_cut a.0 ts end a.2 b)
 
+blank_ends : (text : List ℕ) → list_all is_blank text ≡ true → next text ≡ None
+unfolding next token_at
+blank_ends text b =
+    let n = prefix_len-front is_blank text [] b tt in
+    let m : prefix_len is_blank text ≡ length text = ap (prefix_len is_blank) (sym (append-nil text)) ∙ n in
+    ap (λ (k : ℕ). token_at (drop k text)) m ∙ ap token_at (drop_all (length text) text (omega arith))
+
+same_next : (t u : Token) (rest end : List ℕ) → ◌≡◌ {A = Option (Token × List ℕ)} (Some (t, rest)) (Some (u, end)) → (t ≡ u) × (rest ≡ end)
+same_next t u rest end e = some_pair_parts t u rest end e
+
+-- a text is cut in one way
+pub one_cutting_on : (text : List ℕ) (xs ys : List Token) → IsCut text xs → IsCut text ys → xs ≡ ys
+one_cutting_on text [] [] c d = refl
+one_cutting_on text [] (y ∷ ys) c d = absurd (let e = sym (blank_ends text c) ∙ next_again text y d.0 d.1 in cc)
+one_cutting_on text (x ∷ xs) [] c d = absurd (let e = sym (blank_ends text d) ∙ next_again text x c.0 c.1 in cc)
+one_cutting_on text (x ∷ xs) (y ∷ ys) c d =
+    let e = same_next x y c.0 d.0 (sym (next_again text x c.0 c.1) ∙ next_again text y d.0 d.1) in
+    let ih = one_cutting_on c.0 xs ys c.2 (subst (λ (t : List ℕ). IsCut t ys) (sym e.1) d.2) in
+    ap (λ (t : Token). t ∷ xs) e.0 ∙ ap (λ (ts : List Token). y ∷ ts) ih
+
 -- ---- how many bytes tokens take
 
-abbrev pub bytes_of : List Token → ℕ
+pub bytes_of : List Token → ℕ
 bytes_of ts = sum_by (λ t. length (spelling t)) ts
 
+pub bytes_of-nil : bytes_of [] ≡ 0
+unfolding bytes_of
+bytes_of-nil = refl
+
+pub bytes_of-cons : (t : Token) (ts : List Token) → bytes_of (t ∷ ts) ≡ length (spelling t) + bytes_of ts
+unfolding bytes_of
+bytes_of-cons t ts = sum_by-cons (λ (u : Token). length (spelling u)) t ts
+
+pub bytes_of-append : (xs ys : List Token) → bytes_of (xs ++ ys) ≡ bytes_of xs + bytes_of ys
+unfolding bytes_of
+bytes_of-append xs ys = sum_by-append (λ (u : Token). length (spelling u)) xs ys
+
 pub bytes_fit : (ts : List Token) (text end : List ℕ) → expect ts text ≡ Some end → bytes_of ts + length end ≤ length text
-bytes_fit [] text end e = let n : length text ≡ length end = ap length (nothing_is text end e) in omega (arith, n)
+bytes_fit [] text end e = let n : length text ≡ length end = ap length (nothing_is text end e) in omega (arith, n, bytes_of-nil)
 bytes_fit (t ∷ ts) text end e =
     let a = expect_first t ts text end e in
     let b = next_begins text t a.0 a.1 in
     let n : length text ≡ length b.blanks + (length (spelling t) + length a.0) =
-        ap length b.parts ∙ (length-append b.blanks (spelling t ++ a.0) ∙ ap (λ (k : ℕ). length b.blanks + k) (length-append (spelling t) a.0)) in
+    ap length b.parts ∙ (length-append b.blanks (spelling t ++ a.0) ∙ ap (λ (k : ℕ). length b.blanks + k) (length-append (spelling t) a.0)) in
     let ih = bytes_fit ts a.0 end a.2 in
-    let sum = sum_by-cons (λ (u : Token). length (spelling u)) t ts in
+    let sum = bytes_of-cons t ts in
     omega (arith, n, ih, sum)

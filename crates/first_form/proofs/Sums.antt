@@ -1,25 +1,24 @@
 -- What is read as a word, a number, an item, a sum or a statement has those tokens, and those tokens are read so.
-use Rattle.std.proofs.Common.{◌≡◌, ◌≢◌, ℕ, zero, suc, ◌+◌, ◌<◌, ◌≤◌, ◌^◌, Bool, true, false, cond, eqb, leb, not, ◌&&◌, ◌||◌, List, [], ◌∷◌, ◌++◌, length, get_or, Option, Some, None, refl, sym, ap, subst, ◌∙◌, append_assoc, append-nil, arith, ◌⊎◌, inl, inr}
+use Rattle.std.proofs.Common.{◌≡◌, ℕ, zero, suc, ◌<◌, ◌≤◌, ◌^◌, Bool, true, false, cond, eqb, leb, not, ◌&&◌, ◌||◌, List, [], ◌∷◌, ◌++◌, length, Option, Some, None, refl, sym, ap, subst, ◌∙◌, arith, ◌⊎◌, inl, inr}
 use Rattle.std.specs.Prelude.{codes, IsTrue}
 use Rattle.std.specs.List.{list_all, flat_map, AllByRecursion}
 use Rattle.std.specs.Fmt.{decimal}
 use Rattle.std.specs.Str.{bytes_eq}
-use Rattle.std.proofs.lemmas.Bool.{and_parts, and_from, false≢true, cases_Bool, leb-true, le-leb, lt-leb, false_from_ne_true, or_cases, eqb-true}
+use Rattle.std.proofs.lemmas.Bool.{and_parts, leb-true, false_from_ne_true, or_cases, eqb-true}
 use Rattle.std.proofs.lemmas.Slice.Eq.{bytes_eq-Decides}
-use Rattle.first_form.specs.declared.shader.Statement.{Statement}
 use Rattle.first_form.specs.declared.shader.Sum.{Sum}
 use Rattle.first_form.specs.declared.shader.Item.{Item}
 use Rattle.first_form.specs.declared.shader.Item.TheVariants.{Number, X}
 use Rattle.first_form.specs.Words.{is_letter, is_digit, is_name, is_word_byte, is_free_name, is_reserved}
 use Rattle.first_form.specs.Tokens.{Token, Word, Mark, Text}
-use Rattle.first_form.specs.Shaders.{IsItem, IsSum, IsStatement}
-use Rattle.first_form.specs.Grammar.{number, component, item_tokens, plus, term_tokens, sum_tokens, before_index, before_value, after_value, statement_tokens, closing}
-use Rattle.first_form.specs.Reading.{◌>>=◌, if_there, next, same_token, expect, as_word, word, number_of, number_at, literal_of, name_at, item_at, terms_at, sum_at, statement_at, statements_at}
+use Rattle.first_form.specs.Shaders.{IsItem, IsSum}
+use Rattle.first_form.specs.Grammar.{number, component, item_tokens, plus, term_tokens, sum_tokens}
+use Rattle.first_form.specs.Reading.{◌>>=◌, if_there, next, expect, as_word, word, number_of, number_at, literal_of, name_at, item_at, terms_at, sum_at}
 use Rattle.first_form.proofs.Cutting.{chosen}
-use Rattle.first_form.proofs.Steps.{bind_some, bind_at, if_some, expect_first, expect_more, expect_other, expect_nothing, nothing_is, expect_split, expect_then}
+use Rattle.first_form.proofs.Steps.{bind_some, bind_at, if_some, expect_first, expect_more, expect_nothing, nothing_is, expect_split, expect_then}
 use Rattle.first_form.proofs.Decimals.{number_is, number_again, literal_is, literal_again, decimal_digits, decimal_some, digit_range}
 
-some_is : {A : Type 0} (x y : A) → Some x ≡ Some y → x ≡ y
+pub some_is : {A : Type 0} (x y : A) → Some x ≡ Some y → x ≡ y
 some_is x y e = cc
 
 -- ---- words and numbers
@@ -57,7 +56,7 @@ number_takes text x e =
     let b = bind_some (number_of a.0.0) (λ (n : ℕ). Some (n, a.0.1)) x a.2 in
     let d = number_is a.0.0 b.0 b.1 in
     let made : ℕ × List ℕ = (b.0, a.0.1) in
-    subst (λ (y : ℕ × List ℕ). (expect (number y.0) text ≡ Some y.1) × (y.0 < 2 ^ 32)) (some_is made x b.2)
+    subst (λ (y : ℕ × List ℕ). (expect (number y.0) text ≡ Some y.1) × (y.0 < 2 ^ 32)) {x = made} (some_is made x b.2)
     (ap (λ (ds : List ℕ). expect (Word ds ∷ []) text) d.0 ∙ word_takes text a.0 a.1, d.1)
 
 pub number_at_again : (text : List ℕ) (n : ℕ) (rest : List ℕ) → n < 2 ^ 32 → expect (number n) text ≡ Some rest → number_at text ≡ Some (n, rest)
@@ -92,7 +91,7 @@ letter_is_no_digit b h d =
       | inr e ↦ let l = eqb-true b 95 e in absurd (omega (arith, l, r.1))
     ]
 
-free_is_name : (bytes : List ℕ) → IsTrue (is_free_name bytes) → is_name bytes ≡ true
+pub free_is_name : (bytes : List ℕ) → IsTrue (is_free_name bytes) → is_name bytes ≡ true
 free_is_name bytes h = (and_parts (is_name bytes) (leb (length bytes) 64) (and_parts (is_name bytes && leb (length bytes) 64) (not (is_reserved bytes)) h).0).0
 
 digits_no_name : (ds more : List ℕ) → 0 < length ds → list_all is_digit ds ≡ true → is_name (ds ++ more) ≡ true → ⊥
@@ -107,24 +106,23 @@ literal_is_no_name n bytes h name = false_from_ne_true (bytes_eq (decimal n ++ c
 
 -- ---- items
 
-
 pub item_takes : (parameter text : List ℕ) (x : Item × List ℕ) → item_at parameter text ≡ Some x → (expect (item_tokens parameter x.0) text ≡ Some x.1) × IsItem x.0
 unfolding item_at
 item_takes parameter text x e =
     let a = bind_some (word text) (λ (w : List ℕ × List ℕ). cond (bytes_eq w.0 parameter) (expect component w.1 >>= λ (rest : List ℕ). Some (X, rest)) (literal_of w.0 >>= λ (n : ℕ). Some (Number n, w.1))) x e in
     elim (chosen (bytes_eq a.0.0 parameter) (expect component a.0.1 >>= λ (rest : List ℕ). Some (X, rest)) (literal_of a.0.0 >>= λ (n : ℕ). Some (Number n, a.0.1)) (Some x) a.2) [
       | inl p ↦
-        let b = bind_some (expect component a.0.1) (λ (rest : List ℕ). Some (X, rest)) x p.1 in
-        let same = (bytes_eq-Decides a.0.0 parameter).0 p.0 in
-        let made : Item × List ℕ = (X, b.0) in
-        subst (λ (y : Item × List ℕ). (expect (item_tokens parameter y.0) text ≡ Some y.1) × IsItem y.0) (some_is made x b.2)
-        (expect_more (Word parameter) component text a.0.1 (word_next text a.0 a.1 ∙ ap (λ (bs : List ℕ). Some (Word bs, a.0.1)) same) ∙ b.1, tt)
+          let b = bind_some (expect component a.0.1) (λ (rest : List ℕ). Some (X, rest)) x p.1 in
+          let same = (bytes_eq-Decides a.0.0 parameter).0 p.0 in
+          let made : Item × List ℕ = (X, b.0) in
+          subst (λ (y : Item × List ℕ). (expect (item_tokens parameter y.0) text ≡ Some y.1) × IsItem y.0) {x = made} (some_is made x b.2)
+          (expect_more (Word parameter) component text a.0.1 (word_next text a.0 a.1 ∙ ap (λ (bs : List ℕ). Some (Word bs, a.0.1)) same) ∙ b.1, tt)
       | inr q ↦
-        let b = bind_some (literal_of a.0.0) (λ (n : ℕ). Some (Number n, a.0.1)) x q.1 in
-        let l = literal_is a.0.0 b.0 b.1 in
-        let made : Item × List ℕ = (Number b.0, a.0.1) in
-        subst (λ (y : Item × List ℕ). (expect (item_tokens parameter y.0) text ≡ Some y.1) × IsItem y.0) (some_is made x b.2)
-        (ap (λ (bs : List ℕ). expect (Word bs ∷ []) text) l.0 ∙ word_takes text a.0 a.1, l.1)
+          let b = bind_some (literal_of a.0.0) (λ (n : ℕ). Some (Number n, a.0.1)) x q.1 in
+          let l = literal_is a.0.0 b.0 b.1 in
+          let made : Item × List ℕ = (Number b.0, a.0.1) in
+          subst (λ (y : Item × List ℕ). (expect (item_tokens parameter y.0) text ≡ Some y.1) × IsItem y.0) {x = made} (some_is made x b.2)
+          (ap (λ (bs : List ℕ). expect (Word bs ∷ []) text) l.0 ∙ word_takes text a.0 a.1, l.1)
     ]
 
 pub item_again : (parameter : List ℕ) → IsTrue (is_free_name parameter) → (item : Item) (text rest : List ℕ) → IsItem item → expect (item_tokens parameter item) text ≡ Some rest → item_at parameter text ≡ Some (item, rest)
@@ -141,14 +139,14 @@ item_again parameter name X text rest h e =
 
 -- ---- sums
 
-there : {A B : Type 0} (o : Option A) (f : A → B) (y : B) (x : A) → o ≡ Some x → if_there o f y ≡ f x
+pub there : {A B : Type 0} (o : Option A) (f : A → B) (y : B) (x : A) → o ≡ Some x → if_there o f y ≡ f x
 there o f y x e = ap (λ (p : Option _). if_there p f y) e
 
-not_there : {A B : Type 0} (o : Option A) (f : A → B) (y : B) → o ≡ None → if_there o f y ≡ y
+pub not_there : {A B : Type 0} (o : Option A) (f : A → B) (y : B) → o ≡ None → if_there o f y ≡ y
 not_there o f y e = ap (λ (p : Option _). if_there p f y) e
 
 -- which way it went
-ways : {A B : Type 0} (o : Option A) (f : A → B) (y z : B) → if_there o f y ≡ z → ((x : A) × (o ≡ Some x) × (f x ≡ z)) ⊎ ((o ≡ None) × (y ≡ z))
+pub ways : {A B : Type 0} (o : Option A) (f : A → B) (y z : B) → if_there o f y ≡ z → ((x : A) × (o ≡ Some x) × (f x ≡ z)) ⊎ ((o ≡ None) × (y ≡ z))
 ways (Some x) f y z e = inl (x, refl, e)
 ways None f y z e = inr (refl, e)
 
@@ -160,7 +158,7 @@ record Terms (parameter : List ℕ) (n : ℕ) (text : List ℕ) (x : List Item �
 no_terms : (parameter : List ℕ) (n : ℕ) (text : List ℕ) (x : List Item × List ℕ) → Some ([], text) ≡ Some x → Terms parameter n text x
 no_terms parameter n text x e =
     let made : List Item × List ℕ = ([], text) in
-    subst (λ (y : List Item × List ℕ). Terms parameter n text y) (some_is made x e) (record { tokens = expect_nothing text; items = tt; most = omega arith })
+    subst (λ (y : List Item × List ℕ). Terms parameter n text y) {x = made} (some_is made x e) (record { tokens = expect_nothing text; items = tt; most = omega arith })
 
 terms_take : (parameter : List ℕ) (n : ℕ) (text : List ℕ) (x : List Item × List ℕ) → terms_at parameter n text ≡ Some x → Terms parameter n text x
 unfolding terms_at
@@ -168,16 +166,16 @@ terms_take parameter zero text x e = no_terms parameter zero text x e
 terms_take parameter (suc n) text x e =
     elim (ways (expect plus text) (λ (rest : List ℕ). item_at parameter rest >>= λ item. terms_at parameter n item.1 >>= λ others. Some (item.0 ∷ others.0, others.1)) (Some ([], text)) (Some x) e) [
       | inl a ↦
-        let b = bind_some (item_at parameter a.0) (λ (item : Item × List ℕ). terms_at parameter n item.1 >>= λ others. Some (item.0 ∷ others.0, others.1)) x a.2 in
-        let d = bind_some (terms_at parameter n b.0.1) (λ (others : List Item × List ℕ). Some (b.0.0 ∷ others.0, others.1)) x b.2 in
-        let i = item_takes parameter a.0 b.0 b.1 in
-        let t = terms_take parameter n b.0.1 d.0 d.1 in
-        let made : List Item × List ℕ = (b.0.0 ∷ d.0.0, d.0.1) in
-        subst (λ (y : List Item × List ℕ). Terms parameter (suc n) text y) (some_is made x d.2) (record {
-          tokens = expect_then (term_tokens parameter b.0.0) (flat_map (term_tokens parameter) d.0.0) text b.0.1 d.0.1 (expect_then plus (item_tokens parameter b.0.0) text a.0 b.0.1 a.1 i.0) t.tokens;
-          items = (i.1, t.items);
-          most = let m = t.most in omega arith;
-        })
+          let b = bind_some (item_at parameter a.0) (λ (item : Item × List ℕ). terms_at parameter n item.1 >>= λ others. Some (item.0 ∷ others.0, others.1)) x a.2 in
+          let d = bind_some (terms_at parameter n b.0.1) (λ (others : List Item × List ℕ). Some (b.0.0 ∷ others.0, others.1)) x b.2 in
+          let i = item_takes parameter a.0 b.0 b.1 in
+          let t = terms_take parameter n b.0.1 d.0 d.1 in
+          let made : List Item × List ℕ = (b.0.0 ∷ d.0.0, d.0.1) in
+          subst (λ (y : List Item × List ℕ). Terms parameter (suc n) text y) {x = made} (some_is made x d.2) (record {
+            tokens = expect_then (term_tokens parameter b.0.0) (flat_map (term_tokens parameter) d.0.0) text b.0.1 d.0.1 (expect_then plus (item_tokens parameter b.0.0) text a.0 b.0.1 a.1 i.0) t.tokens;
+            items = (i.1, t.items);
+            most = let m = t.most in omega arith;
+          })
       | inr o ↦ no_terms parameter (suc n) text x o.1
     ]
 
@@ -207,7 +205,7 @@ sum_takes parameter text x e =
     let i = item_takes parameter text a.0 a.1 in
     let t = terms_take parameter 31 a.0.1 b.0 b.1 in
     let made : Sum × List ℕ = (record { first = a.0.0; rest = b.0.0 }, b.0.1) in
-    subst (λ (y : Sum × List ℕ). (expect (sum_tokens parameter y.0) text ≡ Some y.1) × IsSum y.0) (some_is made x b.2)
+    subst (λ (y : Sum × List ℕ). (expect (sum_tokens parameter y.0) text ≡ Some y.1) × IsSum y.0) {x = made} (some_is made x b.2)
     (expect_then (item_tokens parameter a.0.0) (flat_map (term_tokens parameter) b.0.0) text a.0.1 b.0.1 i.0 t.tokens, record { first = i.1; rest = t.items; most = t.most })
 
 pub sum_again : (parameter : List ℕ) → IsTrue (is_free_name parameter) → (sum : Sum) (text rest : List ℕ) → IsSum sum → expect (sum_tokens parameter sum) text ≡ Some rest → expect plus rest ≡ None

@@ -2,6 +2,7 @@
 #![tactic(auto)]
 
 mod grammar;
+mod laws;
 mod numbers;
 mod reading;
 mod shader;
@@ -9,6 +10,7 @@ mod stop;
 mod tokens;
 mod words;
 
+pub use laws::{one_cutting, one_shader};
 pub use reading::read_shader;
 pub use shader::{GroupSize, Item, Shader, Statement, Sum};
 pub use words::is_reserved;

@@ -1,6 +1,6 @@
 // The shader that a text says.
 
-ghost use Rattle.std.specs.Prelude.{◌≡◌, ◌≤◌, length, List, Option, Ok, Some, IfOk, IfSome};
+ghost use Rattle.std.specs.Prelude.{◌≡◌, ◌≤◌, length, Option, Some, IfOk, IfSome, IfNone};
 ghost use Rattle.std.specs.List.{sum_by};
 ghost use Rattle.first_form.specs.Reading as read;
 ghost use Rattle.first_form.specs.Reading.{Gives};
@@ -32,7 +32,7 @@ fn shader_at(alloc: Global, text: &[u8]) -> Result<Shader, Stop>
     })
 }
 
-/// What reading gives, as an answer of `read_shader`.
+/// What reading gives, as an answer: only want of memory is an error.
 fn answer_of(read: Result<Shader, Stop>) -> Result<Option<Shader>, AllocError>
     ensures { (found : Option Shader) → Gives (λ x. x) read found → IfOk result (λ r. r ≡ found) }
 {
@@ -43,9 +43,22 @@ fn answer_of(read: Result<Shader, Stop>) -> Result<Option<Shader>, AllocError>
     }
 }
 
-/// The shader that the text is, if it is of the first form.
-pub fn read_shader(alloc: Global, text: &[u8]) -> Result<Option<Shader>, AllocError>
-    ensures exact { IfOk result (λ r. r ≡ read.shader_at text.now) }
+fn shader_in(alloc: Global, text: &[u8]) -> Result<Option<Shader>, AllocError>
+    ensures { IfOk result (λ r. r ≡ read.shader_at text.now) }
 {
     answer_of(shader_at(alloc, text))
+}
+
+/// The shader that the text is, if it is of the first form.
+pub fn read_shader(alloc: Global, text: &[u8]) -> Result<Option<Shader>, AllocError>
+    // What is read is what the text says.
+    ensures found { IfOk result (λ r. IfSome r (λ s. FirstForm text.now s)) }
+    // A text of the form is read, unless memory runs out.
+    ensures only { (s : Shader) → FirstForm text.now s → IfOk result (λ r. r ≡ Some s) }
+    // So where nothing is read, the text is not of the form.
+    ensures none { IfOk result (λ r. IfNone r ((s : Shader) → FirstForm text.now s → ⊥)) }
+    ensures bounded { IfOk result (λ r. IfSome r (λ s. length s.statements ≤ length text.now)) }
+    ensures bytes { IfOk result (λ r. IfSome r (λ s. sum_by statement_bytes s.statements ≤ length text.now)) }
+{
+    shader_in(alloc, text)
 }
