@@ -1,18 +1,18 @@
 -- How many bytes the tokens of statements take at least.
-use Rattle.std.proofs.Common.{◌≡◌, ℕ, zero, suc, ◌+◌, ◌<◌, ◌≤◌, ◌^◌, Bool, true, false, leb, not, ◌&&◌, List, [], ◌∷◌, ◌++◌, length, refl, sym, ap, ◌∙◌, length-append, arith}
+use Rattle.std.proofs.Common.{◌≡◌, ℕ, ◌+◌, ◌<◌, ◌≤◌, true, List, [], ◌∷◌, ◌++◌, length, length-append, arith}
 use Rattle.std.specs.Prelude.{IsTrue, codes}
 use Rattle.std.specs.List.{flat_map, sum_by, AllByRecursion}
 use Rattle.std.specs.Fmt.{decimal}
-use Rattle.std.proofs.lemmas.Bool.{and_parts, false≢true}
+use Rattle.std.proofs.lemmas.Bool.{false≢true}
 use Rattle.std.proofs.lemmas.List.Sums.{sum_by-cons}
 use Rattle.first_form.specs.declared.shader.Statement.{Statement}
 use Rattle.first_form.specs.declared.shader.Sum.{Sum}
 use Rattle.first_form.specs.declared.shader.Item.{Item}
 use Rattle.first_form.specs.declared.shader.Item.TheVariants.{Number, X}
-use Rattle.first_form.specs.Words.{is_name, is_reserved, is_free_name}
-use Rattle.first_form.specs.Tokens.{Token, Word, Mark}
+use Rattle.first_form.specs.Words.{is_name, is_free_name}
+use Rattle.first_form.specs.Tokens.{Word, Mark}
 use Rattle.first_form.specs.Shaders.{IsItem, IsSum, IsStatement}
-use Rattle.first_form.specs.Grammar.{component, item_tokens, plus, term_tokens, sum_tokens, before_index, before_value, after_value, statement_tokens, item_bytes, sum_bytes, statement_bytes}
+use Rattle.first_form.specs.Grammar.{component, item_tokens, term_tokens, sum_tokens, before_index, before_value, after_value, statement_tokens, item_bytes, sum_bytes, statement_bytes}
 use Rattle.first_form.proofs.Steps.{bytes_of, bytes_of-nil, bytes_of-cons, bytes_of-append}
 use Rattle.first_form.proofs.Decimals.{decimal_some}
 use Rattle.first_form.proofs.Sums.{free_is_name}

@@ -1,5 +1,5 @@
 -- Reading one thing after the other, as loops do.
-use Rattle.std.proofs.Common.{◌≡◌, ℕ, zero, suc, ◌-◌, ◌+◌, ◌<◌, ◌≤◌, List, [], ◌∷◌, ◌++◌, length, map, drop, Option, Some, None, Result, Ok, Err, IsErr, refl, sym, ap, ◌∙◌, append_assoc, arith}
+use Rattle.std.proofs.Common.{◌≡◌, ℕ, zero, suc, ◌<◌, List, [], ◌∷◌, ◌++◌, length, map, drop, Option, Some, None, Result, Ok, Err, IsErr, refl, sym, ap, ◌∙◌, append_assoc, arith}
 use Rattle.std.proofs.lemmas.List.{append-nil}
 use Rattle.std.proofs.lemmas.Bool.{false≢true}
 use Rattle.first_form.specs.declared.stop.Stop.{Stop}
@@ -9,7 +9,7 @@ use Rattle.first_form.specs.declared.shader.Item.{Item}
 use Rattle.first_form.specs.declared.shader.Statement.{Statement}
 use Rattle.first_form.specs.Lexemes.{token}
 use Rattle.first_form.specs.Grammar.{plus, closing}
-use Rattle.first_form.specs.Reading.{◌>>=◌, Finds, Fails, Gives, if_there, next, expect, item_at, terms_at, statement_at, statements_at}
+use Rattle.first_form.specs.Reading.{◌>>=◌, Finds, Fails, Gives, next, expect, item_at, terms_at, statement_at, statements_at}
 
 -- where no token stands, none of those that are left is there
 pub expect_none : (tokens : List Lexeme) (i : ℕ) (rest : List ℕ) (total : Option (List ℕ)) → i < length tokens → next rest ≡ None

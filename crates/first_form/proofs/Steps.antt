@@ -1,14 +1,12 @@
 -- Tokens one after the other: what is expected, and the cutting of a text.
-use Rattle.std.proofs.Common.{◌≡◌, ◌≢◌, ℕ, zero, suc, ◌+◌, ◌<◌, ◌≤◌, Bool, true, false, cond, eqb, List, [], ◌∷◌, ◌++◌, length, Option, Some, None, refl, sym, ap, subst, ◌∙◌, append_assoc, append-nil, length-append, drop, arith, ◌⊎◌, inl, inr}
-use Rattle.std.specs.Prelude.{◌==◌}
+use Rattle.std.proofs.Common.{◌≡◌, ℕ, ◌+◌, ◌≤◌, Bool, true, false, cond, List, [], ◌∷◌, ◌++◌, length, Option, Some, None, refl, sym, ap, subst, ◌∙◌, append-nil, length-append, drop, arith}
 use Rattle.std.specs.List.{list_all, prefix_len, sum_by}
-use Rattle.std.specs.Str.{bytes_eq}
 use Rattle.std.proofs.lemmas.Bool.{eqb-true, eq-eqb, false≢true}
 use Rattle.std.proofs.lemmas.Slice.Eq.{bytes_eq-Decides}
 use Rattle.std.proofs.lemmas.List.{drop_all}
 use Rattle.std.proofs.lemmas.Option.{some_pair_parts}
 use Rattle.std.proofs.lemmas.List.Sums.{sum_by-cons, sum_by-append}
-use Rattle.first_form.specs.Tokens.{Token, Word, Mark, Text, is_blank, spelling, Begins, IsCut}
+use Rattle.first_form.specs.Tokens.{Token, Word, Mark, Text, is_blank, spelling, IsCut}
 use Rattle.first_form.specs.Reading.{◌>>=◌, token_at, next, same_token, expect}
 use Rattle.first_form.proofs.Cutting.{prefix_len-front, next_begins, next_again}
 

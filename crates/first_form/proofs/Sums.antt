@@ -1,22 +1,21 @@
 -- What is read as a word, a number, an item, a sum or a statement has those tokens, and those tokens are read so.
-use Rattle.std.proofs.Common.{◌≡◌, ◌≢◌, ℕ, zero, suc, ◌+◌, ◌<◌, ◌≤◌, ◌^◌, Bool, true, false, cond, eqb, leb, not, ◌&&◌, ◌||◌, List, [], ◌∷◌, ◌++◌, length, get_or, Option, Some, None, refl, sym, ap, subst, ◌∙◌, append_assoc, append-nil, arith, ◌⊎◌, inl, inr}
+use Rattle.std.proofs.Common.{◌≡◌, ℕ, zero, suc, ◌<◌, ◌≤◌, ◌^◌, Bool, true, false, cond, eqb, leb, not, ◌&&◌, ◌||◌, List, [], ◌∷◌, ◌++◌, length, Option, Some, None, refl, sym, ap, subst, ◌∙◌, arith, ◌⊎◌, inl, inr}
 use Rattle.std.specs.Prelude.{codes, IsTrue}
 use Rattle.std.specs.List.{list_all, flat_map, AllByRecursion}
 use Rattle.std.specs.Fmt.{decimal}
 use Rattle.std.specs.Str.{bytes_eq}
-use Rattle.std.proofs.lemmas.Bool.{and_parts, and_from, false≢true, cases_Bool, leb-true, le-leb, lt-leb, false_from_ne_true, or_cases, eqb-true}
+use Rattle.std.proofs.lemmas.Bool.{and_parts, leb-true, false_from_ne_true, or_cases, eqb-true}
 use Rattle.std.proofs.lemmas.Slice.Eq.{bytes_eq-Decides}
-use Rattle.first_form.specs.declared.shader.Statement.{Statement}
 use Rattle.first_form.specs.declared.shader.Sum.{Sum}
 use Rattle.first_form.specs.declared.shader.Item.{Item}
 use Rattle.first_form.specs.declared.shader.Item.TheVariants.{Number, X}
 use Rattle.first_form.specs.Words.{is_letter, is_digit, is_name, is_word_byte, is_free_name, is_reserved}
 use Rattle.first_form.specs.Tokens.{Token, Word, Mark, Text}
-use Rattle.first_form.specs.Shaders.{IsItem, IsSum, IsStatement}
-use Rattle.first_form.specs.Grammar.{number, component, item_tokens, plus, term_tokens, sum_tokens, before_index, before_value, after_value, statement_tokens, closing}
-use Rattle.first_form.specs.Reading.{◌>>=◌, if_there, next, same_token, expect, as_word, word, number_of, number_at, literal_of, name_at, item_at, terms_at, sum_at, statement_at, statements_at}
+use Rattle.first_form.specs.Shaders.{IsItem, IsSum}
+use Rattle.first_form.specs.Grammar.{number, component, item_tokens, plus, term_tokens, sum_tokens}
+use Rattle.first_form.specs.Reading.{◌>>=◌, if_there, next, expect, as_word, word, number_of, number_at, literal_of, name_at, item_at, terms_at, sum_at}
 use Rattle.first_form.proofs.Cutting.{chosen}
-use Rattle.first_form.proofs.Steps.{bind_some, bind_at, if_some, expect_first, expect_more, expect_other, expect_nothing, nothing_is, expect_split, expect_then}
+use Rattle.first_form.proofs.Steps.{bind_some, bind_at, if_some, expect_first, expect_more, expect_nothing, nothing_is, expect_split, expect_then}
 use Rattle.first_form.proofs.Decimals.{number_is, number_again, literal_is, literal_again, decimal_digits, decimal_some, digit_range}
 
 pub some_is : {A : Type 0} (x y : A) → Some x ≡ Some y → x ≡ y

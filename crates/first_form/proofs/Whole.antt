@@ -1,24 +1,21 @@
 -- What is read as a shader is of the form, and what is of the form is read.
-use Rattle.std.proofs.Common.{◌≡◌, ◌≢◌, ℕ, zero, suc, ◌+◌, ◌*◌, ◌<◌, ◌≤◌, ◌^◌, Bool, true, false, cond, eqb, leb, not, ◌&&◌, ◌||◌, List, [], ◌∷◌, ◌++◌, length, Option, Some, None, Result, Ok, Err, IfOk, refl, sym, ap, subst, ◌∙◌, append_assoc, length-append, arith, ◌⊎◌, inl, inr}
+use Rattle.std.proofs.Common.{◌≡◌, ◌≢◌, ℕ, zero, suc, ◌*◌, ◌<◌, ◌≤◌, Bool, true, false, cond, leb, not, ◌&&◌, List, [], ◌∷◌, ◌++◌, length, Option, Some, None, Result, Ok, Err, IfOk, refl, sym, ap, subst, ◌∙◌, append_assoc, arith, inl, inr}
 use Rattle.std.specs.Prelude.{IsTrue, IfSome, IfNone}
 use Rattle.std.specs.declared.alloc.AllocError.{AllocError}
 use Rattle.std.specs.List.{list_all, flat_map, sum_by, AllByRecursion}
 use Rattle.std.specs.Str.{bytes_eq}
 use Rattle.std.proofs.lemmas.Bool.{and_parts, and_from, leb-true, le-leb, false_from_ne_true, not-true, not_from_false, false≢true}
-use Rattle.std.proofs.lemmas.List.Sums.{sum_by-cons, sum_by-append}
 use Rattle.std.proofs.lemmas.Slice.Eq.{bytes_eq-Decides}
 use Rattle.first_form.specs.declared.shader.Shader.{Shader}
 use Rattle.first_form.specs.declared.shader.GroupSize.{GroupSize}
 use Rattle.first_form.specs.declared.shader.Statement.{Statement}
 use Rattle.first_form.specs.declared.shader.Sum.{Sum}
-use Rattle.first_form.specs.declared.shader.Item.{Item}
-use Rattle.first_form.specs.declared.shader.Item.TheVariants.{Number, X}
 use Rattle.first_form.specs.Words.{is_free_name}
-use Rattle.first_form.specs.Tokens.{Token, Word, Mark, Text, is_blank, IsCut}
-use Rattle.first_form.specs.Shaders.{IsItem, IsSum, IsStatement, IsGroup, IsShader}
-use Rattle.first_form.specs.Grammar.{number, comma, group_tokens, item_tokens, plus, term_tokens, sum_tokens, before_index, before_value, after_value, statement_tokens, closing, before_buffer, before_group, before_entry, before_parameter, before_statements, tokens_of, FirstForm, statement_bytes}
-use Rattle.first_form.specs.Reading.{◌>>=◌, if_there, next, same_token, expect, number_at, name_at, sum_at, statement_at, statements_at, is_group, group_at, Head, are_different, head_at, shader_of, shader_at}
-use Rattle.first_form.proofs.Steps.{bind_some, bind_at, if_some, expect_first, expect_more, expect_other, expect_nothing, nothing_is, expect_split, expect_then, cut_read, read_cut, bytes_of, bytes_of-cons, bytes_of-append, bytes_fit}
+use Rattle.first_form.specs.Tokens.{Token, Word, Mark, is_blank}
+use Rattle.first_form.specs.Shaders.{IsStatement, IsGroup, IsShader}
+use Rattle.first_form.specs.Grammar.{number, comma, group_tokens, plus, sum_tokens, before_index, before_value, after_value, statement_tokens, closing, before_buffer, before_group, before_entry, before_parameter, before_statements, tokens_of, FirstForm, statement_bytes}
+use Rattle.first_form.specs.Reading.{◌>>=◌, same_token, expect, number_at, name_at, sum_at, statement_at, statements_at, is_group, group_at, Head, are_different, head_at, shader_of, shader_at}
+use Rattle.first_form.proofs.Steps.{bind_some, bind_at, if_some, expect_first, expect_other, expect_split, expect_then, cut_read, read_cut, bytes_of, bytes_of-cons, bytes_of-append, bytes_fit}
 use Rattle.first_form.proofs.Bytes.{statements_bytes-le, statements_some}
 use Rattle.first_form.proofs.Sums.{number_takes, number_at_again, name_takes, name_again, sum_takes, sum_again, some_is, there, not_there, ways}
 

@@ -7,7 +7,7 @@
 --   STATEMENT = BUFFER [ SUM ] = SUM ;
 --   SUM = ITEM + ITEM ..
 --   ITEM = a decimal number with the suffix `u`, or PARAMETER . x
-use Rattle.std.specs.Prelude.{ℕ, ◌+◌, List, [], ◌∷◌, ◌++◌, codes, length, sum_by}
+use Rattle.std.specs.Prelude.{ℕ, ◌+◌, List, [], ◌∷◌, ◌++◌, codes, sum_by}
 use Rattle.std.specs.Fmt.{decimal}
 use Rattle.std.specs.List.{flat_map}
 use Rattle.first_form.specs.declared.shader.Shader.{Shader}

@@ -1,5 +1,5 @@
 -- Which shaders are of the first form.
-use Rattle.std.specs.Prelude.{◌≡◌, ◌≢◌, ◌≤◌, ◌<◌, ◌*◌, ◌^◌, ℕ, List, length, IsTrue}
+use Rattle.std.specs.Prelude.{◌≢◌, ◌≤◌, ◌<◌, ◌*◌, ◌^◌, length, IsTrue}
 use Rattle.std.specs.List.{AllByRecursion}
 use Rattle.first_form.specs.declared.shader.Shader.{Shader}
 use Rattle.first_form.specs.declared.shader.GroupSize.{GroupSize}

@@ -1,10 +1,10 @@
 -- The tokens of a text, and how a text is cut into them.
 --
--- The language has marks of two and three bytes too, and comments. No text with one of them is of the first form,
--- in its cutting or in this one: of its longer marks those of bytes that are marks here are `::`, `==`, `<=`, `<<`,
--- `<<=`, `++` and `+=`, and no two of these bytes stand in a row among a shader's tokens; and `/` and `#` are no
--- marks here.
-use Rattle.std.specs.Prelude.{◌≡◌, ◌<◌, ℕ, Bool, true, false, not, List, [], ◌∷◌, ◌++◌, ◌&&◌, ◌||◌, ◌==◌, length, IsTrue, nat_le}
+-- The language has longer marks too, which are cut as one token each, and comments. They need no case here, since a
+-- text with one of them is of the first form in neither cutting: the longer marks of bytes that are marks here are
+-- `::` `==` `<=` `<<` `<<=` `++` `+=`, and among a shader's tokens no `:` `=` `<` `+` is followed by one of them; and
+-- `/` begins no token here.
+use Rattle.std.specs.Prelude.{◌≡◌, ◌<◌, ℕ, Bool, false, not, List, [], ◌∷◌, ◌++◌, ◌&&◌, ◌||◌, ◌==◌, length, IsTrue, nat_le}
 use Rattle.std.specs.List.{list_all}
 use Rattle.first_form.specs.Words.{is_word_byte}
 

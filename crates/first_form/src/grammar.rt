@@ -10,7 +10,7 @@ use crate::shader::{GroupSize, Item, Statement, Sum};
 use crate::stop::Stop;
 use crate::tokens::{Lexeme, expect, word};
 use crate::words::is_free_name;
-use slang_tree::limits::SUM_ITEMS;
+use slang_tree::limits::{GROUP_DEPTH, GROUP_SIZE, SUM_ITEMS};
 use sqlite_items::Items;
 use std::alloc::Global;
 
@@ -128,8 +128,13 @@ fn is_group(group: GroupSize) -> bool
     ensures { result ≡ read.is_group group }
 {
     let GroupSize { x, y, z } = group;
-    let fits = 1 <= x && x <= 1024 && 1 <= y && y <= 1024 && 1 <= z && z <= 64;
-    fits && x * y * z <= 1024
+    let along_each = 1 <= x
+        && x <= GROUP_SIZE
+        && 1 <= y
+        && y <= GROUP_SIZE
+        && 1 <= z
+        && z <= GROUP_DEPTH;
+    along_each && x * y * z <= GROUP_SIZE
 }
 
 #[tactic(auto, unfolding(crate::specs::Reading::group_at))]

@@ -19,7 +19,7 @@ fn is_numeral(bytes: &[u8]) -> bool
 {
     match bytes {
         [] => false,
-        [first, others @ ..] => are_digits(bytes) && (*first != 48 || others.len() == 0),
+        [first, others @ ..] => are_digits(bytes) && (*first != b'0' || others.len() == 0),
     }
 }
 
@@ -30,7 +30,7 @@ fn small_value(digits: &[u8]) -> Option<u32>
 {
     let mut value: u64 = 0;
     for d in digits {
-        value = value * 10 + u64::from(*d - 48);
+        value = value * 10 + u64::from(*d - b'0');
         if value > u64::from(u32::MAX) {
             return None;
         }
@@ -56,7 +56,7 @@ pub fn literal_of(bytes: &[u8]) -> Option<u32>
     ensures { result ≡ read.literal_of bytes.now }
 {
     match bytes {
-        [digits @ .., 117] => number_of(digits),
+        [digits @ .., b'u'] => number_of(digits),
         _ => None,
     }
 }

@@ -28,7 +28,7 @@ enum Set {
 fn is_blank(b: u8) -> bool
     ensures { result ≡ spec.is_blank b }
 {
-    b == 9 || b == 10 || b == 13 || b == 32
+    b == b'\t' || b == b'\n' || b == b'\r' || b == b' '
 }
 
 fn is_mark(b: u8) -> bool
@@ -36,14 +36,26 @@ fn is_mark(b: u8) -> bool
 {
     matches!(
         b,
-        40 | 41 | 43 | 44 | 46 | 58 | 59 | 60 | 61 | 62 | 91 | 93 | 123 | 125
+        b'(' | b')'
+            | b'+'
+            | b','
+            | b'.'
+            | b':'
+            | b';'
+            | b'<'
+            | b'='
+            | b'>'
+            | b'['
+            | b']'
+            | b'{'
+            | b'}'
     )
 }
 
 fn is_text_byte(b: u8) -> bool
     ensures { result ≡ spec.is_text_byte b }
 {
-    b >= 32 && b <= 126 && !(b == 34 || b == 92)
+    b >= b' ' && b <= b'~' && !(b == b'"' || b == b'\\')
 }
 
 fn is_in(set: Set, b: u8) -> bool
@@ -75,7 +87,7 @@ fn quoted(bytes: &[u8]) -> Option<(Lexeme<'_>, &[u8])>
 {
     let (inside, rest) = bytes.split_at(run(Set::Text, bytes));
     match rest {
-        [34, rest @ ..] => Some((Lexeme::Text(inside), rest)),
+        [b'"', rest @ ..] => Some((Lexeme::Text(inside), rest)),
         _ => None,
     }
 }
@@ -93,7 +105,7 @@ fn token_at(text: &[u8]) -> Option<(Lexeme<'_>, &[u8])>
                 Some((Lexeme::Word(word), rest))
             } else if is_mark(*b) {
                 Some((Lexeme::Mark(*b), rest))
-            } else if *b == 34 {
+            } else if *b == b'"' {
                 quoted(rest)
             } else {
                 None

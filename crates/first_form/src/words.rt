@@ -209,14 +209,14 @@ pub fn is_reserved(word: &[u8]) -> bool
 fn is_letter(b: u8) -> bool
     ensures { result ≡ spec.is_letter b }
 {
-    (b >= 65 && b <= 90) || (b >= 97 && b <= 122) || b == 95
+    (b >= b'A' && b <= b'Z') || (b >= b'a' && b <= b'z') || b == b'_'
 }
 
 /// Whether it is a decimal digit.
 pub fn is_digit(b: u8) -> bool
     ensures { result ≡ spec.is_digit b }
 {
-    b >= 48 && b <= 57
+    b >= b'0' && b <= b'9'
 }
 
 /// Whether words have the byte: a letter, a digit or `_`.

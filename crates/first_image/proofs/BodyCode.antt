@@ -92,7 +92,7 @@ sum_more ks first is i o m n v w h p q =
       value = p ∙ ap (λ x. (item_code t i x.next 0).id) h.out ∙ ap (λ x. (item_code t i c.id x).id) (sym k) ∙ ap (λ x. x.value) (sym e);
       out = q ∙ ap (λ x. emitted x (operator_code IAdd 4 (pair_code (known v x.next 0) (item_code t i)))) h.out
           ∙ ap (λ x. emitted (emitted o c) (operator_code IAdd 4 (pair_code (known x c.id 0) (item_code t i)))) h.value
-          ∙ plus_join ks o c i k ∙ ap (emitted o) (sym e)
+          ∙ plus_join ks o c i k ∙ ap (emitted o) (sym e);
     }
 
 write_assoc : (o a b : List Instruction) (x y : Instruction) → (((o ++ a) ++ b) ++ x ∷ []) ++ y ∷ [] ≡ o ++ ((a ++ b) ++ x ∷ y ∷ [])
@@ -112,10 +112,10 @@ sum_turn ks first rest xs k o m n v w same lt h p q =
 
 write_of : (ks : List ℕ) (o : Output) (s : Statement)
     → (let t = tables_at ks in let a = sum_code t s.index o.next 0 in let b = sum_code t s.value a.id 0 in
-      ◌≡◌ {A = Output} (record {
-        instructions = (((o.instructions ++ a.instructions) ++ b.instructions) ++ ins AccessChain (t.cell_pointer ∷ b.id ∷ t.buffer ∷ t.constant 0 ∷ a.value ∷ []) ∷ []) ++ ins Store (b.id ∷ b.value ∷ []) ∷ [];
-        next = b.id + 1
-      }) (emitted_piece o (statement_code t s o.next 0)))
+    ◌≡◌ {A = Output} (record {
+      instructions = (((o.instructions ++ a.instructions) ++ b.instructions) ++ ins AccessChain (t.cell_pointer ∷ b.id ∷ t.buffer ∷ t.constant 0 ∷ a.value ∷ []) ∷ []) ++ ins Store (b.id ∷ b.value ∷ []) ∷ [];
+      next = b.id + 1;
+    }) (emitted_piece o (statement_code t s o.next 0)))
 write_of ks o s =
     let t = tables_at ks in
     let a = sum_code t s.index o.next 0 in
@@ -128,7 +128,7 @@ write_of ks o s =
 abbrev written : Output → ℕ → ℕ → ℕ → ℕ → ℕ → Output
 written o pointer buffer member index value = record {
   instructions = (o.instructions ++ ins AccessChain (pointer ∷ o.next ∷ buffer ∷ member ∷ index ∷ []) ∷ []) ++ ins Store (o.next ∷ value ∷ []) ∷ [];
-  next = o.next + 1
+  next = o.next + 1;
 }
 
 -- the output after a statement, from what each of its parts left

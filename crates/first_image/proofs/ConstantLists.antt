@@ -37,11 +37,11 @@ length-insert : (n : ℕ) (ks : List ℕ) → length (insert n ks) ≤ length ks
 length-insert n [] = omega arith
 length-insert n (k ∷ ks) =
     elim (nat_eq n k) as (λ b. length (cond b (k ∷ ks) (cond (nat_lt n k) (n ∷ k ∷ ks) (k ∷ insert n ks))) ≤ length (k ∷ ks) + 1) [
-        true ↦ omega arith
+      | true ↦ omega arith
       | false ↦ elim (nat_lt n k) as (λ b. length (cond b (n ∷ k ∷ ks) (k ∷ insert n ks)) ≤ length (k ∷ ks) + 1) [
-            true ↦ omega arith
-          | false ↦ omega (arith, length-insert n ks)
-        ]
+        | true ↦ omega arith
+        | false ↦ omega (arith, length-insert n ks)
+      ]
     ]
 
 length-item : (i : Item) (ks : List ℕ) → length (item_constants i ks) ≤ length ks + 1

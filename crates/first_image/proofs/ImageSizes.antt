@@ -55,7 +55,7 @@ nonzeros-insert n (k ∷ ks) = step n k ks (nonzeros-insert n ks)
     step : (n k : ℕ) (ks : List ℕ) → nonzeros (insert n ks) ≤ nonzeros ks + cond (nat_eq n 0) 0 1 → nonzeros (insert n (k ∷ ks)) ≤ nonzeros (k ∷ ks) + cond (nat_eq n 0) 0 1
     step n k ks h =
         elim (nat_eq n k) as (λ b. nonzeros (cond b (k ∷ ks) (cond (nat_lt n k) (n ∷ k ∷ ks) (k ∷ insert n ks))) ≤ nonzeros (k ∷ ks) + cond (nat_eq n 0) 0 1) [
-            true ↦ omega arith
+          | true ↦ omega arith
           | false ↦ elim (nat_lt n k) as (λ b. nonzeros (cond b (n ∷ k ∷ ks) (k ∷ insert n ks)) ≤ nonzeros (k ∷ ks) + cond (nat_eq n 0) 0 1) [ true ↦ omega arith | false ↦ omega (arith, h) ]
         ]
 
@@ -79,11 +79,11 @@ all_nonzero : (n : ℕ) (ks : List ℕ) → 0 < n → nonzeros ks ≡ length ks 
 all_nonzero n [] p h = above n [] p h
 all_nonzero n (k ∷ ks) p h =
     elim (nat_eq n k) as (λ b. nonzeros (cond b (k ∷ ks) (cond (nat_lt n k) (n ∷ k ∷ ks) (k ∷ insert n ks))) ≡ length (cond b (k ∷ ks) (cond (nat_lt n k) (n ∷ k ∷ ks) (k ∷ insert n ks)))) [
-        true ↦ h
+      | true ↦ h
       | false ↦ elim (nat_lt n k) as (λ b. nonzeros (cond b (n ∷ k ∷ ks) (k ∷ insert n ks)) ≡ length (cond b (n ∷ k ∷ ks) (k ∷ insert n ks))) [
-            true ↦ above n (k ∷ ks) p h
-          | false ↦ above k (insert n ks) (head_above k ks h) (all_nonzero n ks p (tail_above k ks h))
-        ]
+        | true ↦ above n (k ∷ ks) p h
+        | false ↦ above k (insert n ks) (head_above k ks h) (all_nonzero n ks p (tail_above k ks h))
+      ]
     ]
 
 only_first : (n : ℕ) (ks : List ℕ) → OnlyFirst ks → OnlyFirst (insert n ks)
@@ -160,8 +160,14 @@ statement_cost t s ks id temp =
     let a = sum_code t s.index id temp in
     let b = sum_code t s.value a.id a.temp in
     let write = ins AccessChain (t.cell_pointer ∷ b.id ∷ t.buffer ∷ t.constant 0 ∷ a.value ∷ []) ∷ ins Store (b.id ∷ b.value ∷ []) ∷ [] in
-    omega (arith, size-append (a.instructions ++ b.instructions) write, size-append a.instructions b.instructions, sum_cost t s.value ks a.id a.temp,
-      sum_cost t s.index (sum_constants s.value ks) id temp, nonzeros-insert 0 (sum_constants s.index (sum_constants s.value ks)))
+    omega (
+      arith,
+      size-append (a.instructions ++ b.instructions) write,
+      size-append a.instructions b.instructions,
+      sum_cost t s.value ks a.id a.temp,
+      sum_cost t s.index (sum_constants s.value ks) id temp,
+      nonzeros-insert 0 (sum_constants s.index (sum_constants s.value ks)),
+    )
 
 statements_cost : (t : Tables) (ss : List Statement) (id temp : ℕ) → 2 * size (statements_code t ss id temp).instructions + 8 * nonzeros (statements_constants ss []) ≤ 7 * sum_by statement_bytes ss
 statements_cost t [] id temp = lit≤ tt
@@ -183,8 +189,17 @@ size-preamble : (short : (bytes : List ℕ) → 4 * length (string_words bytes) 
 size-preamble short home p few h =
     let entry = (free_name p.entry h.entry).1 in
     let buffer = (free_name p.buffer h.buffer).1 in
-    omega (arith, entry, buffer, short p.entry, short (qualified home p.buffer), short (qualified home p.entry), length-append home (46 ∷ p.buffer), length-append home (46 ∷ p.entry),
-      length-append (string_words p.entry) (buffer_id p ∷ (buffer_id p + 1) ∷ []))
+    omega (
+      arith,
+      entry,
+      buffer,
+      short p.entry,
+      short (qualified home p.buffer),
+      short (qualified home p.entry),
+      length-append home (46 ∷ p.buffer),
+      length-append home (46 ∷ p.entry),
+      length-append (string_words p.entry) (buffer_id p ∷ (buffer_id p + 1) ∷ []),
+    )
 
 size-entry : (p : Shader) → size (entry_code p) ≡ 20 + size (statements_code (tables p) p.statements (entry_id p + 4) 0).instructions
 size-entry p = let body = (statements_code (tables p) p.statements (entry_id p + 4) 0).instructions in omega (arith, size-append body entry_end)
@@ -205,7 +220,18 @@ image_short short home p few h =
     let l8 = plain_types ++ l7 in
     let whole : length (image_words (image_of home p)) ≡ 5 + size (image_code home p) = length-image_words (image_of home p).bound (image_code home p) in
     let sections : size (image_code home p) ≡ 155 + size (preamble home p) + 4 * length (constants p) + size (entry_code p) =
-        omega (arith, size-append beginning (preamble home p ++ l8), size-append (preamble home p) l8, size-append plain_types l7, size-append (constants_code 13 (constants p)) l6, size-append (buffer_types a) l5,
-          size-append (pointer_types n) l4, size-append (more_types a n) l3, size-append (nulls k) l2, size-append (variables n (buffer_id p)) l1, size-constants 13 (constants p)) in
+    omega (
+      arith,
+      size-append beginning (preamble home p ++ l8),
+      size-append (preamble home p) l8,
+      size-append plain_types l7,
+      size-append (constants_code 13 (constants p)) l6,
+      size-append (buffer_types a) l5,
+      size-append (pointer_types n) l4,
+      size-append (more_types a n) l3,
+      size-append (nulls k) l2,
+      size-append (variables n (buffer_id p)) l1,
+      size-constants 13 (constants p),
+    ) in
     let few_constants = length-only_first (constants p) (only_first-statements p.statements) in
     omega (arith, whole, sections, few_constants, size-preamble short home p few h, size-entry p, statements_cost (tables p) p.statements (entry_id p + 4) 0)

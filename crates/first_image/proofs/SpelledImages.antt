@@ -150,13 +150,13 @@ group_fits g h =
 entry_point_spelled : (s : Strings) (e b : ℕ) (name : List ℕ) → IsText name → length name ≤ 64 → IsInstruction (ins EntryPoint (5 ∷ e ∷ (string_words name ++ b ∷ (b + 1) ∷ [])))
 entry_point_spelled s e b name text few = record {
   layout = ap has_string (s.read name (b ∷ (b + 1) ∷ []) text);
-  short = omega (arith, length-append (string_words name) (b ∷ (b + 1) ∷ []), s.short name)
+  short = omega (arith, length-append (string_words name) (b ∷ (b + 1) ∷ []), s.short name);
 }
 
 name_spelled : (s : Strings) (id : ℕ) (name : List ℕ) → IsText name → length name ≤ 200 → IsInstruction (ins Name (id ∷ string_words name))
 name_spelled s id name text few = record {
   layout = ap is_string (ap after_string (sym (append-nil (string_words name))) ∙ s.read name [] text);
-  short = omega (arith, s.short name)
+  short = omega (arith, s.short name);
 }
 
 mode_spelled : (e : ℕ) (g : GroupSize) → IsGroup g → IsInstruction (ins ExecutionMode (e ∷ 17 ∷ g.x ∷ g.y ∷ g.z ∷ []))
@@ -170,12 +170,19 @@ preamble_spelled s home p text few h =
     let entry = free_name p.entry h.entry in
     let buffer = free_name p.buffer h.buffer in
     let b = buffer_id p in
-    let e = entry_id p in
-    (entry_point_spelled s e b p.entry entry.0 entry.1, (mode_spelled e p.group h.group, (
-      name_spelled s b (qualified home p.buffer) (qualified_text home p.buffer text buffer.0) (omega (arith, length-append home (46 ∷ p.buffer))), (
-      name_spelled s e (qualified home p.entry) (qualified_text home p.entry text entry.0) (omega (arith, length-append home (46 ∷ p.entry))),
-      are_instructions (decorations (array_id p) b) refl
-    ))))
+    let e = entry_id p in (
+      entry_point_spelled s e b p.entry entry.0 entry.1,
+      (
+        mode_spelled e p.group h.group,
+        (
+          name_spelled s b (qualified home p.buffer) (qualified_text home p.buffer text buffer.0) (omega (arith, length-append home (46 ∷ p.buffer))),
+          (
+            name_spelled s e (qualified home p.entry) (qualified_text home p.entry text entry.0) (omega (arith, length-append home (46 ∷ p.entry))),
+            are_instructions (decorations (array_id p) b) refl,
+          ),
+        ),
+      ),
+    )
 
 entry_spelled : (p : Shader) → AreInstructions (entry_code p)
 entry_spelled p =
@@ -206,5 +213,5 @@ image_spelled s home p text few h =
     let rest = plain_types ++ (constants_code 13 (constants p) ++ (buffer_types (array_id p) ++ (pointer_types (pointers_id p) ++ (more_types (array_id p) (pointers_id p) ++ (nulls (nulls_id p) ++ (variables (pointers_id p) (buffer_id p) ++ entry_code p)))))) in
     record {
       bound = λ e. absurd (omega (arith, e, statements_grow (tables p) p.statements (entry_id p + 4) 0));
-      instructions = joined beginning (preamble home p ++ rest) (are_instructions beginning refl) (joined (preamble home p) rest (preamble_spelled s home p text few h) (declared_spelled p))
+      instructions = joined beginning (preamble home p ++ rest) (are_instructions beginning refl) (joined (preamble home p) rest (preamble_spelled s home p text few h) (declared_spelled p));
     }

@@ -23,5 +23,5 @@ image_from_parts ks home p code same is =
     let body = statements_code (tables_at cs) p.statements (entry_at cs + 4) 0 in
     ap (λ l. image_with ks l p.statements) is ∙ ap whole same
     ∙ ap (λ l. record { bound = body.id; instructions = l })
-      (regroup beginning (preamble_at cs home p) plain_types (constants_code 13 cs) (buffer_types a) (pointer_types n) (more_types a n) (nulls (nulls_at cs)) (variables n b)
-       (entry_start n b (entry_at cs) ++ (body.instructions ++ entry_end)))
+    (regroup beginning (preamble_at cs home p) plain_types (constants_code 13 cs) (buffer_types a) (pointer_types n) (more_types a n) (nulls (nulls_at cs)) (variables n b)
+    (entry_start n b (entry_at cs) ++ (body.instructions ++ entry_end)))

@@ -1,5 +1,5 @@
 -- The definitions computed on a shader: its words are those that were worked out by hand, and both meanings run to the same events.
-use Rattle.std.proofs.Common.{◌≡◌, ℕ, List, [], ◌∷◌, refl}
+use Rattle.std.proofs.Common.{◌≡◌, [], ◌∷◌, refl}
 use Rattle.behavior.specs.Meanings.{Write, Done, Undefined, Ids}
 use Rattle.spirv_words.specs.Words.{image_words}
 use Rattle.spirv_words.specs.Runs.{words}
@@ -11,9 +11,11 @@ use Rattle.first_image.specs.Image.{image_of}
 -- `outp[tid.x] = tid.x + 1u;` in `main`
 abbrev increment : Shader
 increment = record {
-  buffer = 111 ∷ 117 ∷ 116 ∷ 112 ∷ []; entry = 109 ∷ 97 ∷ 105 ∷ 110 ∷ []; parameter = 116 ∷ 105 ∷ 100 ∷ [];
+  buffer = 111 ∷ 117 ∷ 116 ∷ 112 ∷ [];
+  entry = 109 ∷ 97 ∷ 105 ∷ 110 ∷ [];
+  parameter = 116 ∷ 105 ∷ 100 ∷ [];
   group = record { x = 1; y = 1; z = 1 };
-  statements = (record { index = record { first = X; rest = [] }; value = record { first = X; rest = Number 1 ∷ [] } }) ∷ []
+  statements = (record { index = record { first = X; rest = [] }; value = record { first = X; rest = Number 1 ∷ [] } }) ∷ [];
 }
 
 increment_words : image_words (image_of (97 ∷ []) increment) ≡

@@ -30,8 +30,13 @@ entry_at ks = buffer_at ks + 2
 
 abbrev pub tables_at : List ℕ → Tables
 tables_at ks = record {
-  word = 4; word_pointer = pointers_at ks + 2; cell_pointer = pointers_at ks + 10; buffer = buffer_at ks;
-  constant = λ k. 13 + position k ks; pointer = λ i. entry_at ks + 2 + i; temporaries = entry_at ks + 3
+  word = 4;
+  word_pointer = pointers_at ks + 2;
+  cell_pointer = pointers_at ks + 10;
+  buffer = buffer_at ks;
+  constant = λ k. 13 + position k ks;
+  pointer = λ i. entry_at ks + 2 + i;
+  temporaries = entry_at ks + 3;
 }
 
 -- ---- the output after some code

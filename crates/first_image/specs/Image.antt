@@ -67,8 +67,13 @@ entry_id p = buffer_id p + 2
 
 abbrev pub tables : Shader → Tables
 tables p = record {
-  word = 4; word_pointer = pointers_id p + 2; cell_pointer = pointers_id p + 10; buffer = buffer_id p;
-  constant = λ k. 13 + position k (constants p); pointer = λ i. entry_id p + 2 + i; temporaries = entry_id p + 3
+  word = 4;
+  word_pointer = pointers_id p + 2;
+  cell_pointer = pointers_id p + 10;
+  buffer = buffer_id p;
+  constant = λ k. 13 + position k (constants p);
+  pointer = λ i. entry_id p + 2 + i;
+  temporaries = entry_id p + 3;
 }
 
 -- ---- the sections of this form
@@ -120,5 +125,5 @@ image_code home p =
 abbrev pub image_of : List ℕ → Shader → Image
 image_of home p = record {
   bound = (statements_code (tables p) p.statements (entry_id p + 4) 0).id;
-  instructions = image_code home p
+  instructions = image_code home p;
 }

@@ -24,7 +24,7 @@ item_means X l w = component_means 0 0 l w
 abbrev pub plus_means : (List Value → World → Result Value) → (List Value → World → Result Value) → List Value → World → Result Value
 plus_means a b l w =
     then (a l w) (λ x l1 w1. then (b l1 w1) (λ y l2 w2.
-        on_word x w2 (λ n. on_word y w2 (λ m. Went (Word (word_add n m)) l2 w2))))
+    on_word x w2 (λ n. on_word y w2 (λ m. Went (Word (word_add n m)) l2 w2))))
 
 -- what is summed so far, and the items to come
 abbrev pub more_means : (List Value → World → Result Value) → List Item → List Value → World → Result Value
@@ -39,8 +39,8 @@ module _ (lengths : ℕ → ℕ → ℕ) where
   abbrev pub write_means : (List Value → World → Result Value) → (List Value → World → Result Value) → List Value → World → Result Flow
   write_means index value l w =
       then (index l w) (λ x l1 w1. then (value l1 w1) (λ y l2 w2.
-          on_word x w2 (λ n. on_word y w2 (λ m.
-              choose (nat_lt n (lengths 0 0)) (Went Next l2 (and_event w2 (Write 0 0 n m))) (Ends w2.events Undefined)))))
+      on_word x w2 (λ n. on_word y w2 (λ m.
+      choose (nat_lt n (lengths 0 0)) (Went Next l2 (and_event w2 (Write 0 0 n m))) (Ends w2.events Undefined)))))
 
   -- the index, then the value, then the write
   abbrev pub statement_means : Statement → List Value → World → Result Flow

@@ -57,7 +57,9 @@ operator_code op type p =
 abbrev pub component_code : Tables → ℕ → ℕ → ℕ → ℕ → Code
 component_code t local k id temp = record {
   instructions = ins AccessChain (t.word_pointer ∷ id ∷ t.pointer local ∷ t.constant k ∷ []) ∷ ins Load (t.word ∷ (id + 1) ∷ id ∷ []) ∷ [];
-  value = id + 1; id = id + 2; temp = temp
+  value = id + 1;
+  id = id + 2;
+  temp = temp;
 }
 
 abbrev pub item_code : Tables → Item → ℕ → ℕ → Code
@@ -75,7 +77,8 @@ sum_code t s = more_code t (item_code t s.first) s.rest
 abbrev pub write_code : Tables → Pair → Piece
 write_code t p = record {
   instructions = p.instructions ++ ins AccessChain (t.cell_pointer ∷ p.id ∷ t.buffer ∷ t.constant 0 ∷ p.left ∷ []) ∷ ins Store (p.id ∷ p.right ∷ []) ∷ [];
-  id = p.id + 1; temp = p.temp
+  id = p.id + 1;
+  temp = p.temp;
 }
 
 abbrev pub statement_code : Tables → Statement → ℕ → ℕ → Piece

@@ -88,7 +88,12 @@ fn emit_plus(
 {
     let right = emit_item(alloc, out, ids, item)?;
     let id = fresh(out);
-    push(alloc, &mut out.instructions, Op::IAdd, &[UINT, id, left, right])?;
+    push(
+        alloc,
+        &mut out.instructions,
+        Op::IAdd,
+        &[UINT, id, left, right],
+    )?;
     Ok(id)
 }
 

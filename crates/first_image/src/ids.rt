@@ -7,7 +7,7 @@ ghost use Rattle.first_image.specs.Image.{position, statements_constants};
 ghost use Rattle.first_form.specs.Shaders.{IsStatement};
 ghost use Rattle.first_image.specs.Emitted.{array_at, pointers_at, nulls_at, buffer_at, entry_at, tables_at};
 
-use crate::constants::constants_of;
+use crate::numbers::constants_of;
 use first_form::Statement;
 use std::alloc::{AllocError, Global};
 

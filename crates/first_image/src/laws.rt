@@ -10,5 +10,4 @@ ghost use Rattle.first_image.specs.Image.{image_of};
 /// The words of a shader's image do what the shader does, in both directions, and are never stuck.
 pub fn words_mean_source()
     ensures { (home : List ℕ) (shader : Shader) → Agree (source shader) (words (image_of home shader)) }
-{
-}
+{}

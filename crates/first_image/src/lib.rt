@@ -2,14 +2,16 @@
 #![tactic(auto)]
 
 mod body;
-mod constants;
+mod emitting;
 mod ids;
-mod image;
 mod laws;
+mod numbers;
 mod output;
 mod sections;
 mod spelling;
+#[cfg(test)]
+mod tests;
 
-pub use image::emit;
+pub use emitting::emit;
 pub use laws::words_mean_source;
 pub use spelling::{image_is_short, image_is_spelled};

@@ -10,23 +10,38 @@ use std::alloc::{AllocError, Global};
 
 // Storage classes (SPIR-V 1.5, section 3.7).
 pub const INPUT: u32 = 1;
+
 pub const UNIFORM: u32 = 2;
+
 pub const FUNCTION: u32 = 7;
+
 pub const STORAGE_BUFFER: u32 = 12;
 
 // The ids of the types and constants that every image begins with.
 pub const VOID: u32 = 1;
+
 pub const BOOL: u32 = 2;
+
 pub const INT: u32 = 3;
+
 pub const UINT: u32 = 4;
+
 pub const INT2: u32 = 5;
+
 pub const INT3: u32 = 6;
+
 pub const INT4: u32 = 7;
+
 pub const UINT2: u32 = 8;
+
 pub const UINT3: u32 = 9;
+
 pub const UINT4: u32 = 10;
+
 pub const TRUE: u32 = 11;
+
 pub const FALSE: u32 = 12;
+
 pub const FIRST_CONSTANT: u32 = 13;
 
 /// What the image needs of its reader, and how it names memory.
@@ -67,7 +82,12 @@ pub fn emit_constants(
     ensures { OnOk result (code.new ≡ code.old ++ constants_code 13 numbers.now) }
 {
     for (i, number) in numbers.iter().enumerate() {
-        push(alloc, code, Op::Constant, &[UINT, FIRST_CONSTANT + i as u32, *number])?;
+        push(
+            alloc,
+            code,
+            Op::Constant,
+            &[UINT, FIRST_CONSTANT + i as u32, *number],
+        )?;
     }
     Ok(())
 }
@@ -92,7 +112,12 @@ pub fn emit_pointer_types(
     push(alloc, code, Op::TypePointer, &[id + 7, FUNCTION, UINT3])?;
     push(alloc, code, Op::TypePointer, &[id + 8, FUNCTION, UINT4])?;
     push(alloc, code, Op::TypePointer, &[id + 9, STORAGE_BUFFER, INT])?;
-    push(alloc, code, Op::TypePointer, &[id + 10, STORAGE_BUFFER, UINT])?;
+    push(
+        alloc,
+        code,
+        Op::TypePointer,
+        &[id + 10, STORAGE_BUFFER, UINT],
+    )?;
     push(alloc, code, Op::TypePointer, &[id + 11, UNIFORM, INT])?;
     push(alloc, code, Op::TypePointer, &[id + 12, UNIFORM, UINT])?;
     push(alloc, code, Op::TypePointer, &[id + 13, INPUT, UINT3])?;
@@ -101,11 +126,7 @@ pub fn emit_pointer_types(
 }
 
 /// The nulls of bool, words and vectors.
-pub fn emit_nulls(
-    alloc: Global,
-    code: &mut Items<Instruction>,
-    id: u32,
-) -> Result<(), AllocError>
+pub fn emit_nulls(alloc: Global, code: &mut Items<Instruction>, id: u32) -> Result<(), AllocError>
     requires { id + 9 < 2 ^ 32 }
     ensures { OnOk result (code.new ≡ code.old ++ nulls id) }
 {

@@ -100,3 +100,16 @@ pub enum LinkFault {
     Refused(LinkCause),
     Memory(AllocError),
 }
+
+/// Why an image is not run over given buffers.
+#[derive(Clone, Copy, PartialEq, Eq, Debug)]
+pub enum RunCause {
+    /// 506: the image has no entry of the name.
+    NoEntry,
+    /// 504: no buffers text goes on with the byte at this place.
+    BufferText { place: u64 },
+    /// 505: this many invocations are more than a run may have.
+    DispatchLimit { product: u128 },
+    /// 503: the image's buffer of this set and binding is not given, or is too short.
+    BufferMissing { set: u32, binding: u32 },
+}

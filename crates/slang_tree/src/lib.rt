@@ -3,11 +3,15 @@
 
 mod codes;
 mod faults;
+mod form_codes;
+mod letters;
 pub mod limits;
 mod names;
 mod places;
 
 pub use codes::ModuleCode;
-pub use faults::{Counted, LinkCause, LinkFault, ModuleFault};
+pub use faults::{Counted, LinkCause, LinkFault, ModuleFault, RunCause};
+pub use form_codes::FormCode;
+pub use letters::{is_name, is_word_byte};
 pub use names::{Name, Ref};
 pub use places::{Access, Mode, Place, Value};

@@ -1,43 +1,40 @@
--- The words of a string, read back.
-use Rattle.std.proofs.Common.{◌≡◌, ℕ, ◌+◌, ◌*◌, ◌/◌, ◌%◌, ◌<◌, ◌≤◌, List, [], ◌∷◌, ◌++◌, length, refl, ap, ◌∙◌, arith, Some}
-use Rattle.std.proofs.lemmas.Bool.Decides.{nat_tests}
-use Rattle.spirv_words.specs.Strings.{string_words, IsText}
-use Rattle.spirv_words.specs.Layouts.{after_string, quarter, Full, Last, string_rest}
+-- Words and their bytes, four bytes at a time.
+use Rattle.std.proofs.Common.{◌≡◌, ℕ, suc, ◌*◌, ◌^◌, ◌<◌, List, [], ◌∷◌, length, All, refl, ap, ◌∙◌, arith}
+use Rattle.std.proofs.lemmas.List.Elements.{All-head, All-tail}
+use Rattle.byteorder.specs.Endian.{little_number, IsRead}
+use Rattle.byteorder.specs.Numbers.{little_number-reads_back}
+use Rattle.spirv_words.specs.Bytes.{bytes_of_words, words_of_bytes}
 
--- ---- how a word goes on, by its bytes
+-- numbers that were read in turn are the words
+pub words-from_read : (bytes words : List ℕ) → length bytes ≡ 4 * length words → IsRead little_number 4 bytes words → words ≡ words_of_bytes bytes
+words-from_read [] [] e h = refl
+words-from_read (a ∷ bytes) [] e h = absurd (omega arith)
+words-from_read [] (w ∷ ws) e h = absurd (omega arith)
+words-from_read (a ∷ []) (w ∷ ws) e h = absurd (omega arith)
+words-from_read (a ∷ b ∷ []) (w ∷ ws) e h = absurd (omega arith)
+words-from_read (a ∷ b ∷ c ∷ []) (w ∷ ws) e h = absurd (omega arith)
+words-from_read (a ∷ b ∷ c ∷ d ∷ bytes) (w ∷ ws) e h =
+    let first : w ≡ little_number 4 (a ∷ b ∷ c ∷ d ∷ []) = h 0 (omega arith) in
+    let later : IsRead little_number 4 bytes ws = λ k lt.
+    let four : 4 * suc k ≡ suc (suc (suc (suc (4 * k)))) = omega arith in
+    rw four at (h (suc k) (omega arith)) in
+    let rest = words-from_read bytes ws (omega arith) later in
+    cc
 
-full : (w : ℕ) → 0 < w % 256 → 0 < w / 256 % 256 → 0 < w / 65536 % 256 → 16777216 ≤ w → quarter w ≡ Full
-full w a b c d = grind (arith, nat_tests)
+-- the bytes of words read as the words
+pub words_of_bytes-bytes_of_words : (words : List ℕ) → All (λ w. w < 2 ^ 32) words → words_of_bytes (bytes_of_words words) ≡ words
+words_of_bytes-bytes_of_words [] h = refl
+words_of_bytes-bytes_of_words (w ∷ ws) h =
+    let small : w < 256 ^ 4 = All-head (λ w. w < 2 ^ 32) w ws h in
+    let first = little_number-reads_back 4 w [] small in
+    let rest = words_of_bytes-bytes_of_words ws (All-tail (λ w. w < 2 ^ 32) w ws h) in
+    rw (first, rest) refl
 
-last_of_one : (w : ℕ) → 0 < w % 256 → w / 256 % 256 ≡ 0 → w < 256 → quarter w ≡ Last
-last_of_one w a b short = grind (arith, nat_tests)
+-- four bytes for each word
+pub length-bytes_of_words : (words : List ℕ) → length (bytes_of_words words) ≡ 4 * length words
+length-bytes_of_words [] = refl
+length-bytes_of_words (w ∷ ws) = let rest = length-bytes_of_words ws in omega arith
 
-last_of_two : (w : ℕ) → 0 < w % 256 → 0 < w / 256 % 256 → w / 65536 % 256 ≡ 0 → w < 65536 → quarter w ≡ Last
-last_of_two w a b c short = grind (arith, nat_tests)
-
-last_of_three : (w : ℕ) → 0 < w % 256 → 0 < w / 256 % 256 → 0 < w / 65536 % 256 → w < 16777216 → quarter w ≡ Last
-last_of_three w a b c short = grind (arith, nat_tests)
-
--- ---- whole strings
-
-pub after_string-string_words : (bytes rest : List ℕ) → IsText bytes → after_string (string_words bytes ++ rest) ≡ Some rest
-after_string-string_words [] rest text = refl
-after_string-string_words (a ∷ []) rest (a0, a1, text) =
-    ap (λ q. string_rest q rest (after_string rest)) (last_of_one a (omega arith) (omega arith) a1)
-after_string-string_words (a ∷ b ∷ []) rest (a0, a1, (b0, b1, text)) =
-    ap (λ q. string_rest q rest (after_string rest)) (last_of_two (a + 256 * b) (omega arith) (omega arith) (omega arith) (omega arith))
-after_string-string_words (a ∷ b ∷ c ∷ []) rest (a0, a1, (b0, b1, (c0, c1, text))) =
-    ap (λ q. string_rest q rest (after_string rest))
-    (last_of_three (a + 256 * b + 65536 * c) (omega arith) (omega arith) (omega arith) (omega arith))
-after_string-string_words (a ∷ b ∷ c ∷ d ∷ more) rest (a0, a1, (b0, b1, (c0, c1, (d0, d1, text)))) =
-    let w : ℕ = a + 256 * b + 65536 * c + 16777216 * d in
-    ap (λ q. string_rest q (string_words more ++ rest) (after_string (string_words more ++ rest)))
-    (full w (omega arith) (omega arith) (omega arith) (omega arith))
-    ∙ after_string-string_words more rest text
-
-pub length-string_words : (bytes : List ℕ) → 4 * length (string_words bytes) ≤ length bytes + 4
-length-string_words [] = omega arith
-length-string_words (a ∷ []) = omega arith
-length-string_words (a ∷ b ∷ []) = omega arith
-length-string_words (a ∷ b ∷ c ∷ []) = omega arith
-length-string_words (a ∷ b ∷ c ∷ d ∷ more) = omega (arith, length-string_words more)
+-- what reads as the bytes' words is the words whose bytes they are
+pub words-from_bytes : (bytes read words : List ℕ) → read ≡ words_of_bytes bytes → All (λ w. w < 2 ^ 32) words → bytes ≡ bytes_of_words words → read ≡ words
+words-from_bytes bytes read words r small e = r ∙ ap words_of_bytes e ∙ words_of_bytes-bytes_of_words words small

@@ -1,6 +1,9 @@
 pub mod Opcodes
 pub mod Layouts
 pub mod Words
+pub mod Bytes
+pub mod Codes
+pub mod Refusals
 pub mod Strings
 pub mod Machine
 pub mod Step

@@ -26,9 +26,8 @@ impl Instruction {
 
     /// How many words spell the instruction, its first word included.
     pub fn length(&self) -> usize
-        requires { length self.now.operands < 65535 }
         ensures { result ≡ length (instruction_words self.now) }
     {
-        self.operands.len() + 1
+        self.operands.as_slice().len() + 1
     }
 }

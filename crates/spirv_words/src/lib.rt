@@ -2,11 +2,17 @@
 //! the run of an image for one invocation. The definitions are those of SPIR-V 1.5, cut to the opcodes of this profile.
 #![tactic(auto)]
 
+mod bytes;
+mod faults;
 mod images;
 mod opcodes;
 mod strings;
+#[cfg(test)]
+mod tests;
 mod writing;
 
+pub use bytes::{from_bytes, to_bytes};
+pub use faults::{ImageCode, ImageFault};
 pub use images::{Image, Instruction};
 pub use opcodes::Op;
 pub use strings::{string_is_read, string_is_short, string_words};

@@ -1,6 +1,5 @@
-use Rattle.std.proofs.Common.{◌≡◌, ℕ, ◌-◌, ◌+◌, ◌<◌, ◌≤◌, suc, sym, ap, ◌∙◌, arith, List, length, Option, None}
+use Rattle.std.proofs.Common.{◌≡◌, ℕ, ◌-◌, ◌+◌, ◌<◌, ◌≤◌, suc, ap, ◌∙◌, arith, List, length, None}
 use Rattle.std.proofs.lemmas.Result.{err_from_is_err_and}
-use Rattle.first_form.specs.declared.shader.Statement.{Statement}
 use Rattle.first_form.specs.Reading.{statement_at, statements_at}
 use Rattle.first_form.proofs.Loops.{goes_on, is_done, is_none, statements_end, statements_none, statements_more, fails_on}
 use Rattle.first_form.proofs.grammar.statements_at.Goals as goal

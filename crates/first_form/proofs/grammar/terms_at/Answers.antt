@@ -1,5 +1,4 @@
-use Rattle.std.proofs.Common.{◌≡◌, ℕ, ◌-◌, ◌+◌, ◌<◌, ◌≤◌, suc, sym, ap, ◌∙◌, arith, List, Option, Some, []}
-use Rattle.first_form.specs.declared.shader.Item.{Item}
+use Rattle.std.proofs.Common.{◌≡◌, ℕ, ◌-◌, ◌+◌, ◌<◌, ◌≤◌, suc, ap, ◌∙◌, arith, List, Some, []}
 use Rattle.first_form.specs.Reading.{terms_at}
 use Rattle.first_form.proofs.Loops.{goes_on, is_done, is_none, terms_end, terms_none, terms_more, found_none, found_some, gives_none}
 use Rattle.first_form.proofs.grammar.terms_at.Goals as goal

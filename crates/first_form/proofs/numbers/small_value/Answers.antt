@@ -1,6 +1,5 @@
 use Rattle.std.proofs.Common.{arith}
-use Rattle.first_form.proofs.Decimals.{value_step, too_large, digit_range, passes_at}
-use Rattle.first_form.specs.Words.{is_digit}
+use Rattle.first_form.proofs.Decimals.{value_step, too_large}
 use Rattle.first_form.proofs.numbers.small_value.Goals as goal
 
 pub returns-then-value-from : goal.returns-then-value-from

@@ -11,5 +11,5 @@ invariant-loop-item l =
     record {
       value : l.value ≡ c.value;
       out : l.out ≡ emitted l.fn.out c;
-      few : l.out.next ≤ l.fn.out.next + (3 * l.item-index + 2)
+      few : l.out.next ≤ l.fn.out.next + (3 * l.item-index + 2);
     }

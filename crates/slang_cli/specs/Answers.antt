@@ -1,0 +1,64 @@
+-- What the program answers, where memory and the outside hold.
+use Rattle.std.specs.Prelude.{◌≡◌, ◌≢◌, ℕ, ◌<◌, ◌≤◌, List, [], ◌∷◌, length, Option, Some, None}
+use Rattle.std.specs.Fmt.{decimal}
+use Rattle.slang_tree.specs.declared.names.Ref.{Ref}
+use Rattle.slang_tree.specs.declared.codes.ModuleCode.TheVariants.{TooLong, NotYet}
+use Rattle.slang_tree.specs.declared.faults.LinkCause.TheVariants.{NoEntry}
+use Rattle.slang_store.specs.Contents.{Contents, with_entry}
+use Rattle.spirv_words.specs.Words.{image_words}
+use Rattle.spirv_words.specs.Bytes.{bytes_of_words}
+use Rattle.first_form.specs.declared.shader.Shader.{Shader}
+use Rattle.first_form.specs.Grammar.{FirstForm}
+use Rattle.first_image.specs.Image.{image_of}
+use Rattle.slang_cli.specs.declared.outcome.Outcome.{Outcome}
+use Rattle.slang_cli.specs.declared.outcome.Outcome.TheVariants.{Done, ModuleRefused, LinkRefused, Absent}
+use Rattle.slang_cli.specs.Commands.{Command, Compile, text_name}
+use Rattle.slang_cli.specs.Lines.{line, refusal_line}
+
+-- a command is refused, with a status and its values, or it gives a file its bytes and prints a line
+pub data Answer : Type 0 where
+  Refuses : (status : Outcome) → Answer
+  Puts : (name bytes line : List ℕ) → Answer
+
+abbrev pub outcome_of : Answer → Outcome
+outcome_of (Refuses status) = status
+outcome_of (Puts name bytes line) = Done
+
+abbrev pub printed : Answer → List ℕ
+printed (Refuses status) = refusal_line status
+printed (Puts name bytes line) = line
+
+-- what the files hold afterwards
+abbrev pub contents_after : Contents → Answer → Contents
+contents_after m (Refuses status) = m
+contents_after m (Puts name bytes line) = with_entry m name bytes
+
+-- the entry is that of the shader, in its module
+pub record IsEntry (entry : Ref) (home : List ℕ) (shader : Shader) : Type 0 where
+  pub home : entry.module ≡ home
+  pub path : entry.path ≡ shader.entry
+
+-- the first bytes past a text of the greatest length
+abbrev pub text_limit : ℕ
+text_limit = 1048576
+
+-- what compile answers over what the files hold: the text is read; it may be too long; it may not be of the first form;
+-- the entry may not be its entry; and else its image's words are put, as bytes
+pub data Compiles (m : Contents) (entry : Ref) (image home : List ℕ) : Answer → Type 0 where
+  absent : m (text_name home) ≡ None → Compiles m entry image home (Refuses (Absent (text_name home)))
+  too_long : {text : List ℕ} → m (text_name home) ≡ Some text → text_limit < length text →
+      Compiles m entry image home (Refuses (ModuleRefused home (record { start = text_limit; end = text_limit }) TooLong))
+  not_yet : {text : List ℕ} → m (text_name home) ≡ Some text → length text ≤ text_limit →
+      ((shader : Shader) → FirstForm text shader → ⊥) →
+      Compiles m entry image home (Refuses (ModuleRefused home (record { start = 0; end = 0 }) NotYet))
+  no_entry : {text : List ℕ} {shader : Shader} → m (text_name home) ≡ Some text → length text ≤ text_limit →
+      FirstForm text shader → (IsEntry entry home shader → ⊥) → Compiles m entry image home (Refuses (LinkRefused (NoEntry entry)))
+  puts : {text : List ℕ} {shader : Shader} → m (text_name home) ≡ Some text → length text ≤ text_limit →
+      FirstForm text shader → IsEntry entry home shader →
+      Compiles m entry image home
+        (Puts image (bytes_of_words (image_words (image_of home shader)))
+          (line image (decimal (length (image_words (image_of home shader))) ∷ [])))
+
+-- the answer to a command, over what the files hold
+abbrev pub IsAnswer : Command → Contents → Answer → Type 0
+IsAnswer (Compile entry image home) m answer = Compiles m entry image home answer

@@ -1,0 +1,5 @@
+pub mod Commands
+pub mod Lines
+pub mod Answers
+pub mod Views
+pub mod Calls

@@ -1,0 +1,74 @@
+-- The line that is printed: words parted by one space, and a line feed.
+use Rattle.std.specs.Prelude.{ℕ, List, [], ◌∷◌, ◌++◌, codes}
+use Rattle.std.specs.Fmt.{decimal}
+use Rattle.std.specs.List.{flat_map}
+use Rattle.slang_tree.specs.declared.names.Ref.{Ref}
+use Rattle.slang_tree.specs.declared.faults.Counted.{Counted}
+use Rattle.slang_tree.specs.declared.faults.Counted.TheVariants.{Instances, Types, Words as WordsOf, Instruction}
+use Rattle.slang_tree.specs.declared.faults.LinkCause.{LinkCause}
+use Rattle.slang_tree.specs.declared.faults.LinkCause.TheVariants as link
+use Rattle.slang_tree.specs.declared.faults.RunCause.{RunCause}
+use Rattle.slang_tree.specs.declared.faults.RunCause.TheVariants as input
+use Rattle.slang_tree.specs.Codes.{code_number, code_name}
+use Rattle.slang_tree.specs.FormCodes.{form_number, form_name}
+use Rattle.spirv_words.specs.ImageCodes.{image_number, image_name}
+use Rattle.slang_cli.specs.declared.outcome.Outcome.{Outcome}
+use Rattle.slang_cli.specs.declared.outcome.Outcome.TheVariants.{Done, ModuleRefused, LinkRefused, Words, ReadFault, WriteFault, Memory, Undefined, Budget, Absent, FormRefused, ImageRefused, InputRefused}
+
+-- a space before each word
+abbrev pub spaced : List (List ℕ) → List ℕ
+spaced words = flat_map (λ word. 32 ∷ word) words
+
+abbrev pub line : List ℕ → List (List ℕ) → List ℕ
+line first more = (first ++ spaced more) ++ 10 ∷ []
+
+-- a declaration, as `light.Lamp`
+abbrev pub dotted : Ref → List ℕ
+dotted r = r.module ++ 46 ∷ r.path
+
+abbrev pub counted_word : Counted → List ℕ
+counted_word Instances = codes "instances"
+counted_word Types = codes "types"
+counted_word WordsOf = codes "words"
+counted_word Instruction = codes "instruction"
+
+-- the code, the name and the values of a cause
+abbrev pub link_words : LinkCause → List (List ℕ)
+link_words (link.ModuleCount n) = codes "217" ∷ codes "ModuleCount" ∷ decimal n ∷ []
+link_words (link.ModuleTwice a) = codes "201" ∷ codes "ModuleTwice" ∷ a ∷ []
+link_words (link.ModuleMissing a b) = codes "202" ∷ codes "ModuleMissing" ∷ a ∷ b ∷ []
+link_words (link.Stale a b) = codes "203" ∷ codes "Stale" ∷ a ∷ b ∷ []
+link_words (link.ConformsTwice s i a b) = codes "204" ∷ codes "ConformsTwice" ∷ dotted s ∷ dotted i ∷ a ∷ b ∷ []
+link_words (link.NoEntry e) = codes "209" ∷ codes "NoEntry" ∷ dotted e ∷ []
+link_words (link.TooMany c n) = codes "210" ∷ codes "TooMany" ∷ counted_word c ∷ decimal n ∷ []
+link_words (link.TooDeep k) = codes "211" ∷ codes "TooDeep" ∷ k ∷ []
+link_words (link.InfiniteType k) = codes "213" ∷ codes "InfiniteType" ∷ k ∷ []
+link_words (link.ArrayLength k) = codes "214" ∷ codes "ArrayLength" ∷ k ∷ []
+link_words (link.Recursion k c) = codes "212" ∷ codes "Recursion" ∷ k ∷ c ∷ []
+link_words (link.DataType p) = codes "218" ∷ codes "DataType" ∷ p ∷ []
+link_words (link.BindingClash a b) = codes "215" ∷ codes "BindingClash" ∷ a ∷ b ∷ []
+link_words (link.ImageLimit c n) = codes "216" ∷ codes "ImageLimit" ∷ counted_word c ∷ decimal n ∷ []
+
+abbrev pub input_words : RunCause → List (List ℕ)
+input_words input.NoEntry = codes "506" ∷ codes "NoEntry" ∷ []
+input_words (input.BufferText p) = codes "504" ∷ codes "BufferText" ∷ decimal p ∷ []
+input_words (input.DispatchLimit n) = codes "505" ∷ codes "DispatchLimit" ∷ decimal n ∷ []
+input_words (input.BufferMissing s b) = codes "503" ∷ codes "BufferMissing" ∷ decimal s ∷ decimal b ∷ []
+
+-- the line of an outcome other than Done; with WriteFault nothing more is printed
+abbrev pub refusal_line : Outcome → List ℕ
+refusal_line Done = []
+refusal_line (ModuleRefused home place code) =
+    line (codes "refused") (home ∷ decimal (code_number code) ∷ code_name code ∷ decimal place.start ∷ decimal place.end ∷ [])
+refusal_line (LinkRefused cause) = line (codes "link") (link_words cause)
+refusal_line Words = line (codes "words") []
+refusal_line ReadFault = line (codes "read") []
+refusal_line WriteFault = []
+refusal_line Memory = line (codes "memory") []
+refusal_line (Undefined invocation step) = line (codes "undefined") (decimal invocation ∷ decimal step ∷ [])
+refusal_line (Budget invocation) = line (codes "budget") (decimal invocation ∷ [])
+refusal_line (Absent name) = line (codes "absent") (name ∷ [])
+refusal_line (FormRefused name place code) =
+    line (codes "form") (name ∷ decimal (form_number code) ∷ form_name code ∷ decimal place ∷ [])
+refusal_line (ImageRefused place code) = line (codes "image") (decimal (image_number code) ∷ image_name code ∷ decimal place ∷ [])
+refusal_line (InputRefused cause) = line (codes "input") (input_words cause)
