@@ -5,7 +5,9 @@
 mod bytes;
 mod faults;
 mod images;
+mod layouts;
 mod opcodes;
+mod reading;
 #[cfg(test)]
 mod tests;
 mod writing;
@@ -14,4 +16,5 @@ pub use bytes::{from_bytes, to_bytes};
 pub use faults::{ImageCode, ImageFault};
 pub use images::{Image, Instruction};
 pub use opcodes::Op;
+pub use reading::read;
 pub use writing::write;
