@@ -6,3 +6,4 @@ pub mod OneInstruction
 pub mod Numbers
 pub mod Once
 pub mod Answered
+pub mod Whole

@@ -1,5 +1,6 @@
 -- Each opcode has a number of its own, which 16 bits can tell.
-use Rattle.std.proofs.Common.{◌≡◌, ℕ, ◌<◌, nat_eq, cond, List, [], ◌∷◌, Option, Some, None, refl, sym, ap, ◌∙◌, lit<}
+use Rattle.std.proofs.Common.{◌≡◌, ◌≢◌, ◌⊎◌, inl, inr, ℕ, ◌<◌, Bool, true, false, nat_eq, cond, List, [], ◌∷◌, Option, Some, None, refl, sym, ap, ◌∙◌, lit<}
+use Rattle.std.proofs.lemmas.Bool.{eqb-true}
 use Rattle.spirv_words.specs.declared.opcodes.Op.{Op}
 use Rattle.spirv_words.specs.declared.opcodes.Op.TheVariants.{Name, MemoryModel, EntryPoint, ExecutionMode, Capability, TypeVoid, TypeBool, TypeInt, TypeVector, TypeArray, TypeRuntimeArray, TypeStruct, TypePointer, TypeFunction, ConstantTrue, ConstantFalse, Constant, ConstantNull, Function, FunctionParameter, FunctionEnd, FunctionCall, Variable, Load, Store, AccessChain, Decorate, MemberDecorate, CompositeConstruct, CompositeExtract, Bitcast, SNegate, IAdd, ISub, IMul, UDiv, SDiv, UMod, SRem, LogicalEqual, LogicalNotEqual, LogicalNot, IEqual, INotEqual, UGreaterThan, SGreaterThan, UGreaterThanEqual, SGreaterThanEqual, ULessThan, SLessThan, ULessThanEqual, SLessThanEqual, ShiftRightLogical, ShiftRightArithmetic, ShiftLeftLogical, BitwiseOr, BitwiseXor, BitwiseAnd, Not, LoopMerge, SelectionMerge, Label, Branch, BranchConditional, Return, ReturnValue, Unreachable}
 use Rattle.spirv_words.specs.Opcodes.{op_number}
@@ -154,3 +155,19 @@ pub op_number-injective : (a b : Op) → op_number a ≡ op_number b → a ≡ b
 op_number-injective a b e =
     let same : Some a ≡ Some b = sym (found a) ∙ ap (λ n. first_of n every) e ∙ found b in
     cc
+
+-- what a test chooses
+chosen : (b : Bool) (o op : Op) (n : ℕ) (later : Option Op) → nat_eq (op_number o) n ≡ b → (later ≡ Some op → op_number op ≡ n) → cond b (Some o) later ≡ Some op → op_number op ≡ n
+chosen true o op n later t go e = let same : o ≡ op = cc in ap op_number (sym same) ∙ eqb-true (op_number o) n t
+chosen false o op n later t go e = go e
+
+named : (ops : List Op) (n : ℕ) (op : Op) → first_of n ops ≡ Some op → op_number op ≡ n
+named [] n op e = cc
+named (o ∷ ops) n op e = chosen (nat_eq (op_number o) n) o op n (first_of n ops) refl (named ops n op) e
+
+-- a number is that of an opcode, or of none
+pub numbered : (n : ℕ) → ((op : Op) × (op_number op ≡ n)) ⊎ ((op : Op) → op_number op ≢ n)
+numbered n = by_first (first_of n every) refl where
+  by_first : (found : Option Op) → first_of n every ≡ found → ((op : Op) × (op_number op ≡ n)) ⊎ ((op : Op) → op_number op ≢ n)
+  by_first (Some op) e = inl (op, named every n op e)
+  by_first None e = inr (λ op same. let some : None ≡ Some op = sym e ∙ ap (λ k. first_of k every) (sym same) ∙ found op in cc)

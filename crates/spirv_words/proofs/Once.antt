@@ -1,5 +1,5 @@
 -- Words spell at most one image, or have one first fault, and never both.
-use Rattle.std.proofs.Common.{◌≡◌, ◌≢◌, ℕ, zero, suc, ◌+◌, ◌*◌, ◌/◌, ◌%◌, ◌<◌, ◌≤◌, List, [], ◌∷◌, ◌++◌, length, take, drop, Option, Some, None, refl, sym, ap, ◌∙◌, subst, append_assoc, length-append, not, nat_eq, arith}
+use Rattle.std.proofs.Common.{◌≡◌, ◌≢◌, ℕ, zero, suc, ◌+◌, ◌*◌, List, [], ◌∷◌, ◌++◌, length, take, drop, Some, None, refl, sym, ap, ◌∙◌, subst, append_assoc, length-append, not, nat_eq, arith}
 use Rattle.std.proofs.Math.Dec.{eqb-suc-zero}
 use Rattle.std.proofs.Math.Seq.{take-append_seam}
 use Rattle.spirv_words.specs.declared.opcodes.Op.{Op}
@@ -7,9 +7,9 @@ use Rattle.spirv_words.specs.declared.images.Instruction.{Instruction}
 use Rattle.spirv_words.specs.declared.images.Image.{Image}
 use Rattle.spirv_words.specs.declared.faults.ImageCode.{ImageCode}
 use Rattle.spirv_words.specs.Opcodes.{op_number}
-use Rattle.spirv_words.specs.Words.{instruction_words, body_words, image_words, IsInstruction, AreInstructions, CanBeSpelled, Spells}
+use Rattle.spirv_words.specs.Words.{instruction_words, body_words, image_words, IsInstruction, AreInstructions, Spells}
 use Rattle.spirv_words.specs.Misfits.{unless, misfit}
-use Rattle.spirv_words.specs.Unread.{wrong_header, BeginsWrong, UnknownOpcode, PassesEnd, NoLength, Misfits, BreaksOff, FirstUnread, NoHeader, WrongHeader, WrongInstruction}
+use Rattle.spirv_words.specs.Unread.{wrong_header, BeginsWrong, UnknownOpcode, PassesEnd, NoLength, Misfits, FirstUnread, NoHeader, WrongHeader, WrongInstruction}
 use Rattle.spirv_words.proofs.Fitting.{none_wrong}
 use Rattle.spirv_words.proofs.Numbers.{op_number-small, op_number-injective}
 

@@ -5,6 +5,7 @@
 mod bytes;
 mod faults;
 mod images;
+mod laws;
 mod layouts;
 mod opcodes;
 mod reading;
@@ -15,6 +16,7 @@ mod writing;
 pub use bytes::{from_bytes, to_bytes};
 pub use faults::{ImageCode, ImageFault};
 pub use images::{Image, Instruction};
+pub use laws::words_have_one_reading;
 pub use opcodes::Op;
 pub use reading::read;
 pub use writing::write;

@@ -1,8 +1,8 @@
-use Rattle.std.proofs.Common.{◌≡◌, ◌+◌, ◌-◌, ◌/◌, ◌<◌, take, length, refl, sym, ap, ◌∙◌, arith}
+use Rattle.std.proofs.Common.{◌≡◌, ◌-◌, ◌/◌, ◌<◌, take, length, refl, sym, ap, ◌∙◌, arith}
 use Rattle.std.proofs.lemmas.List.{length-take-le}
 use Rattle.std.proofs.lemmas.Grind.{common_steps}
 use Rattle.spirv_words.proofs.OneInstruction.{spelled_from}
-use Rattle.spirv_words.specs.Unread.{UnknownOpcode, PassesEnd, NoLength, Misfits}
+use Rattle.spirv_words.specs.Unread.{PassesEnd, NoLength, Misfits}
 use Rattle.spirv_words.specs.Misfits.{misfit}
 use Rattle.spirv_words.proofs.Fitting.{fit}
 use Rattle.spirv_words.proofs.reading.instruction_from.Goals as goal
