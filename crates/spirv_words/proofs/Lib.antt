@@ -1,3 +1,10 @@
 pub mod Written
 pub mod Spelled
 pub mod StringWords
+pub mod Endings
+pub mod Fitting
+pub mod OneInstruction
+pub mod Numbers
+pub mod Once
+pub mod Answered
+pub mod Whole

@@ -5,13 +5,13 @@ use Rattle.spirv_words.specs.declared.opcodes.Op.TheVariants.{Name, MemoryModel,
 
 -- ---- strings
 
--- a word of a string: four bytes, of which the first is the lowest
--- how the word goes on: four bytes that are not 0, or some bytes and then zeros, or neither
+-- how a word of a string goes on: by four bytes that are not 0, or by some bytes and then zeros, or by neither
 pub data Quarter : Type 0 where
   Full : Quarter
   Last : Quarter
   Broken : Quarter
 
+-- a byte of a word, of which the first is the lowest
 abbrev pub byte_of : ℕ → ℕ → ℕ
 byte_of w zero = w % 256
 byte_of w (suc zero) = w / 256 % 256

@@ -1,9 +1,11 @@
 pub mod Opcodes
 pub mod Layouts
+pub mod Misfits
 pub mod Words
 pub mod Bytes
 pub mod Codes
 pub mod Refusals
+pub mod Unread
 pub mod Strings
 pub mod Machine
 pub mod Step

@@ -5,7 +5,10 @@
 mod bytes;
 mod faults;
 mod images;
+mod laws;
+mod layouts;
 mod opcodes;
+mod reading;
 mod strings;
 #[cfg(test)]
 mod tests;
@@ -14,6 +17,8 @@ mod writing;
 pub use bytes::{from_bytes, to_bytes};
 pub use faults::{ImageCode, ImageFault};
 pub use images::{Image, Instruction};
+pub use laws::words_have_one_reading;
 pub use opcodes::Op;
+pub use reading::read;
 pub use strings::{string_is_read, string_is_short, string_words};
 pub use writing::write;

@@ -1,6 +1,6 @@
 // The opcodes of SPIR-V that images of this profile use, named as in the SPIR-V specification without its `Op`.
 
-ghost use Rattle.std.specs.Prelude.{◌≡◌};
+ghost use Rattle.std.specs.Prelude.{◌≡◌, ◌≢◌, IfSome, IfNone};
 ghost use Rattle.spirv_words.specs.Opcodes.{op_number};
 
 /// An opcode.
@@ -149,5 +149,82 @@ impl Op {
             Op::ReturnValue => 254,
             Op::Unreachable => 255,
         }
+    }
+
+    /// The opcode that a number stands for.
+    pub fn from_number(number: u32) -> Option<Op>
+        ensures known { IfSome result (λ op. op_number op ≡ number) }
+        ensures unknown { IfNone result ((op : Op) → op_number op ≢ number) }
+    {
+        Some(match number {
+            5 => Op::Name,
+            14 => Op::MemoryModel,
+            15 => Op::EntryPoint,
+            16 => Op::ExecutionMode,
+            17 => Op::Capability,
+            19 => Op::TypeVoid,
+            20 => Op::TypeBool,
+            21 => Op::TypeInt,
+            23 => Op::TypeVector,
+            28 => Op::TypeArray,
+            29 => Op::TypeRuntimeArray,
+            30 => Op::TypeStruct,
+            32 => Op::TypePointer,
+            33 => Op::TypeFunction,
+            41 => Op::ConstantTrue,
+            42 => Op::ConstantFalse,
+            43 => Op::Constant,
+            46 => Op::ConstantNull,
+            54 => Op::Function,
+            55 => Op::FunctionParameter,
+            56 => Op::FunctionEnd,
+            57 => Op::FunctionCall,
+            59 => Op::Variable,
+            61 => Op::Load,
+            62 => Op::Store,
+            65 => Op::AccessChain,
+            71 => Op::Decorate,
+            72 => Op::MemberDecorate,
+            80 => Op::CompositeConstruct,
+            81 => Op::CompositeExtract,
+            124 => Op::Bitcast,
+            126 => Op::SNegate,
+            128 => Op::IAdd,
+            130 => Op::ISub,
+            132 => Op::IMul,
+            134 => Op::UDiv,
+            135 => Op::SDiv,
+            137 => Op::UMod,
+            138 => Op::SRem,
+            164 => Op::LogicalEqual,
+            165 => Op::LogicalNotEqual,
+            168 => Op::LogicalNot,
+            170 => Op::IEqual,
+            171 => Op::INotEqual,
+            172 => Op::UGreaterThan,
+            173 => Op::SGreaterThan,
+            174 => Op::UGreaterThanEqual,
+            175 => Op::SGreaterThanEqual,
+            176 => Op::ULessThan,
+            177 => Op::SLessThan,
+            178 => Op::ULessThanEqual,
+            179 => Op::SLessThanEqual,
+            194 => Op::ShiftRightLogical,
+            195 => Op::ShiftRightArithmetic,
+            196 => Op::ShiftLeftLogical,
+            197 => Op::BitwiseOr,
+            198 => Op::BitwiseXor,
+            199 => Op::BitwiseAnd,
+            200 => Op::Not,
+            246 => Op::LoopMerge,
+            247 => Op::SelectionMerge,
+            248 => Op::Label,
+            249 => Op::Branch,
+            250 => Op::BranchConditional,
+            253 => Op::Return,
+            254 => Op::ReturnValue,
+            255 => Op::Unreachable,
+            _ => return None,
+        })
     }
 }
