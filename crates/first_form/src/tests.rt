@@ -261,3 +261,21 @@ fn texts_that_miss_the_form(rt: HostRuntime) -> Result<(), Fail> {
     }
     Ok(())
 }
+
+#[test]
+fn the_shader_of_a_text(rt: HostRuntime) -> Result<(), Fail> {
+    let text =
+        "RWStructuredBuffer<uint> outp;\n[shader(\"compute\")] [numthreads(8,4,2)]\nvoid main(uint3 tid : SV_DispatchThreadID) { outp[tid.x] = tid.x + 1u + 4294967295u; }";
+    let shader = read_shader(rt.alloc(), text.as_bytes())?.ok_or("the text is of the form")?;
+    assert!(rt; shader.buffer.is(b"outp"));
+    assert!(rt; shader.entry.is(b"main"));
+    assert!(rt; shader.parameter.is(b"tid"));
+    assert_eq!(rt; shader.group, GroupSize { x: 8, y: 4, z: 2 });
+    let statement = shader.statements.as_slice().first().ok_or("one statement")?;
+    assert_eq!(rt; statement.index.first, Item::X);
+    assert!(rt; statement.index.rest.is_empty());
+    assert_eq!(rt; statement.value.first, Item::X);
+    let others = [Item::Number(1), Item::Number(4294967295)];
+    assert_eq!(rt; statement.value.rest.as_slice(), others.as_slice());
+    Ok(())
+}
