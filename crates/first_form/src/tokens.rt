@@ -7,7 +7,7 @@ ghost use Rattle.first_form.specs.Lexemes.{is_in, token};
 ghost use Rattle.first_form.specs.Reading as read;
 ghost use Rattle.first_form.specs.Reading.{Finds};
 
-use crate::words::is_word_byte;
+use slang_tree::is_word_byte;
 
 /// A token, as it stands in the text.
 #[derive(Clone, Copy)]

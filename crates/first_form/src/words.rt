@@ -1,10 +1,11 @@
 // Names, and the words of the language that no name may be.
 
 ghost use Rattle.std.specs.Prelude.{◌≡◌};
-ghost use Rattle.std.specs.List.{list_any, list_all};
+ghost use Rattle.std.specs.List.{list_any};
 ghost use Rattle.std.specs.Str.{bytes_eq};
 ghost use Rattle.first_form.specs.Words as spec;
 
+use slang_tree::is_name;
 use slang_tree::limits::NAME_BYTES;
 
 /// Words that have a use in the language.
@@ -206,40 +207,11 @@ pub fn is_reserved(word: &[u8]) -> bool
         || is_one_of(&INTEGER_MATRICES, word)
 }
 
-fn is_letter(b: u8) -> bool
-    ensures { result ≡ spec.is_letter b }
-{
-    (b >= b'A' && b <= b'Z') || (b >= b'a' && b <= b'z') || b == b'_'
-}
-
 /// Whether it is a decimal digit.
 pub fn is_digit(b: u8) -> bool
     ensures { result ≡ spec.is_digit b }
 {
     b >= b'0' && b <= b'9'
-}
-
-/// Whether words have the byte: a letter, a digit or `_`.
-pub fn is_word_byte(b: u8) -> bool
-    ensures { result ≡ spec.is_word_byte b }
-{
-    is_letter(b) || is_digit(b)
-}
-
-fn are_word_bytes(bytes: &[u8]) -> bool
-    ensures { result ≡ list_all spec.is_word_byte bytes.now }
-{
-    bytes.iter().all(|b| is_word_byte(*b))
-}
-
-/// Whether the word is a letter or `_`, and then letters, digits and `_`.
-pub fn is_name(word: &[u8]) -> bool
-    ensures { result ≡ spec.is_name word.now }
-{
-    match word {
-        [] => false,
-        [first, others @ ..] => is_letter(*first) && are_word_bytes(others),
-    }
 }
 
 /// Whether a shader's own things may be called so: a name of at most 64 bytes that is no word of the language.

@@ -1,1 +1,11 @@
 pub mod Parsing
+pub mod Named
+pub mod Results
+pub mod Compiled
+pub mod FoundText
+pub mod Delivery
+pub mod Carried
+pub mod Called
+pub mod Clauses
+pub mod OneAnswer
+pub mod Meant

@@ -1,6 +1,6 @@
 -- Which words are no command.
 use Rattle.std.proofs.Common.{◌≡◌, ◌≢◌, ℕ, ◌+◌, ◌<◌, List, [], ◌∷◌, length, map, Option, None, refl, arith}
-use Rattle.slang_cli.specs.Commands.{Command, command_of}
+use Rattle.slang_cli.specs.Commands.{command_of}
 
 -- a command has four words
 pub other_count : {A : Type 0} (f : A → List ℕ) (words : List A) → length words ≢ 4 → None ≡ command_of (map f words)

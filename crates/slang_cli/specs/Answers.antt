@@ -1,5 +1,5 @@
 -- What the program answers, where memory and the outside hold.
-use Rattle.std.specs.Prelude.{◌≡◌, ◌≢◌, ℕ, ◌<◌, ◌≤◌, List, [], ◌∷◌, length, Option, Some, None}
+use Rattle.std.specs.Prelude.{◌≡◌, ◌≢◌, ◌⊎◌, ℕ, ◌<◌, ◌≤◌, List, [], ◌∷◌, length, Option, Some, None}
 use Rattle.std.specs.Fmt.{decimal}
 use Rattle.slang_tree.specs.declared.names.Ref.{Ref}
 use Rattle.slang_tree.specs.declared.codes.ModuleCode.TheVariants.{TooLong, NotYet}
@@ -12,7 +12,7 @@ use Rattle.first_form.specs.Grammar.{FirstForm}
 use Rattle.first_image.specs.Image.{image_of}
 use Rattle.slang_cli.specs.declared.outcome.Outcome.{Outcome}
 use Rattle.slang_cli.specs.declared.outcome.Outcome.TheVariants.{Done, ModuleRefused, LinkRefused, Absent}
-use Rattle.slang_cli.specs.Commands.{Command, Compile, text_name}
+use Rattle.slang_cli.specs.Commands.{Request, Compile, text_name}
 use Rattle.slang_cli.specs.Lines.{line, refusal_line}
 
 -- a command is refused, with a status and its values, or it gives a file its bytes and prints a line
@@ -33,10 +33,21 @@ abbrev pub contents_after : Contents → Answer → Contents
 contents_after m (Refuses status) = m
 contents_after m (Puts name bytes line) = with_entry m name bytes
 
+-- the bytes of the words of a shader's image are put, and how many words there are is printed
+abbrev pub puts_image : List ℕ → List ℕ → Shader → Answer
+puts_image image home shader =
+    Puts image (bytes_of_words (image_words (image_of home shader))) (line image (decimal (length (image_words (image_of home shader))) ∷ []))
+
 -- the entry is that of the shader, in its module
 pub record IsEntry (entry : Ref) (home : List ℕ) (shader : Shader) : Type 0 where
-  pub home : entry.module ≡ home
-  pub path : entry.path ≡ shader.entry
+  pub module_is : entry.module ≡ home
+  pub path_is : entry.path ≡ shader.entry
+
+-- what is answered to a text that says the shader
+abbrev pub OfShader : Ref → List ℕ → List ℕ → Shader → Answer → Type 0
+OfShader entry image home shader answer =
+    (IsEntry entry home shader × (answer ≡ puts_image image home shader))
+    ⊎ ((IsEntry entry home shader → ⊥) × (answer ≡ Refuses (LinkRefused (NoEntry entry))))
 
 -- the first bytes past a text of the greatest length
 abbrev pub text_limit : ℕ
@@ -55,10 +66,8 @@ pub data Compiles (m : Contents) (entry : Ref) (image home : List ℕ) : Answer 
       FirstForm text shader → (IsEntry entry home shader → ⊥) → Compiles m entry image home (Refuses (LinkRefused (NoEntry entry)))
   puts : {text : List ℕ} {shader : Shader} → m (text_name home) ≡ Some text → length text ≤ text_limit →
       FirstForm text shader → IsEntry entry home shader →
-      Compiles m entry image home
-        (Puts image (bytes_of_words (image_words (image_of home shader)))
-          (line image (decimal (length (image_words (image_of home shader))) ∷ [])))
+      Compiles m entry image home (puts_image image home shader)
 
 -- the answer to a command, over what the files hold
-abbrev pub IsAnswer : Command → Contents → Answer → Type 0
+abbrev pub IsAnswer : Request → Contents → Answer → Type 0
 IsAnswer (Compile entry image home) m answer = Compiles m entry image home answer

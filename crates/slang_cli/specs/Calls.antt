@@ -2,18 +2,20 @@
 use Rattle.std.specs.Prelude.{◌≡◌, ◌⊎◌, ℕ, List, ◌++◌, Option, Some, None}
 use Rattle.behavior.specs.Meanings.{Agree}
 use Rattle.slang_tree.specs.declared.names.Ref.{Ref}
-use Rattle.slang_store.specs.Contents.{Contents, Partly, IsPrefixOf}
+use Rattle.slang_store.specs.Contents.{Contents, Partly}
 use Rattle.spirv_words.specs.Words.{Spells}
 use Rattle.spirv_words.specs.Bytes.{bytes_of_words}
 use Rattle.spirv_words.specs.Runs.{words}
 use Rattle.first_form.specs.declared.shader.Shader.{Shader}
 use Rattle.first_form.specs.Grammar.{FirstForm}
 use Rattle.first_image.specs.Source.{source}
+use Rattle.first_image.specs.Image.{image_of}
 use Rattle.spirv_words.specs.declared.images.Image.{Image}
 use Rattle.slang_cli.specs.declared.outcome.Outcome.{Outcome}
 use Rattle.slang_cli.specs.declared.outcome.Outcome.TheVariants.{Done, ModuleRefused, LinkRefused, Words, ReadFault, WriteFault, Memory, Undefined, Budget, Absent, FormRefused, ImageRefused, InputRefused}
-use Rattle.slang_cli.specs.Commands.{Command, Compile, text_name}
+use Rattle.slang_cli.specs.Commands.{Request, Compile, text_name}
 use Rattle.slang_cli.specs.Lines.{refusal_line}
+use Rattle.slang_cli.specs.Outside.{SinkNow, TookAll}
 use Rattle.slang_cli.specs.Answers.{Answer, Puts, IsAnswer, IsEntry, outcome_of, printed, contents_after}
 
 -- a fact where neither memory nor the outside cut the call short
@@ -23,16 +25,23 @@ WhereSettled WriteFault P = Unit {0}
 WhereSettled Memory P = Unit {0}
 WhereSettled status P = P
 
--- the call answered what the command's answer over the files is, and left the files and printed what that says
-pub record Answered (command : Command) (m : Contents) (status : Outcome) (n : Option Contents) : Type 0 where
+-- a fact of each status that prints its own line whole
+abbrev pub WhereRefused : Outcome → Type 0 → Type 0
+WhereRefused Done P = Unit {0}
+WhereRefused WriteFault P = Unit {0}
+WhereRefused status P = P
+
+-- the call answered what the command's answer over the files is, left the files as that says, and printed its line
+pub record Answered (command : Request) (m : Contents) (status : Outcome) (n : Option Contents) (before after : SinkNow) : Type 0 where
   pub answer : Answer
   pub is : IsAnswer command m answer
   pub status_is : status ≡ outcome_of answer
   pub files : n ≡ Some (contents_after m answer)
+  pub line : TookAll before after (printed answer)
 
--- after a failed put, or a line that failed behind a put: the files hold what they held, or the name of what was to be
--- put holds a part of it, from its first byte on, or all of it
-pub record PutInPart (command : Command) (m : Contents) (n : Option Contents) : Type 0 where
+-- after a failed put, or a line that failed behind a put: the name of what was to be put holds a part of it, from its
+-- first byte on, or all of it, or what it held
+pub record PutInPart (command : Request) (m : Contents) (n : Option Contents) : Type 0 where
   pub name : List ℕ
   pub bytes : List ℕ
   pub line : List ℕ
@@ -41,11 +50,13 @@ pub record PutInPart (command : Command) (m : Contents) (n : Option Contents) : 
   pub files : n ≡ Some left
   pub partly : Partly m name bytes left
 
-abbrev pub MayHold : Command → Contents → Option Contents → Type 0
-MayHold command m n = (n ≡ Some m) ⊎ PutInPart command m n
+-- what files may hold after a fault in writing
+abbrev pub MayHold : Option Request → Contents → Option Contents → Type 0
+MayHold None m n = n ≡ Some m
+MayHold (Some command) m n = (n ≡ Some m) ⊎ PutInPart command m n
 
 -- a line that a call with this command may print: its answer's, or that of a fault or of want of memory
-abbrev pub IsLine : Option Command → Contents → List ℕ → Type 0
+abbrev pub IsLine : Option Request → Contents → List ℕ → Type 0
 IsLine None m line = line ≡ refusal_line Words
 IsLine (Some command) m line =
     ((answer : Answer) × IsAnswer command m answer × (line ≡ printed answer)) ⊎ ((line ≡ refusal_line ReadFault) ⊎ (line ≡ refusal_line Memory))
@@ -60,6 +71,7 @@ pub record Means (entry : Ref) (image home : List ℕ) (m n : Contents) : Type 0
   pub read : m (text_name home) ≡ Some text
   pub form : FirstForm text shader
   pub entry_is : IsEntry entry home shader
+  pub made_is : made ≡ image_of home shader
   pub put : n image ≡ Some (bytes_of_words written)
   pub spelled : Spells written made
   pub agree : Agree (source shader) (words made)

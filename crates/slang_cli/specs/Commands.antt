@@ -5,8 +5,8 @@ use Rattle.slang_tree.specs.declared.names.Ref.{Ref}
 use Rattle.slang_tree.specs.Letters.{is_word_byte, is_name}
 
 -- compile M.F IMAGE M1: the entry F of the module M, the file of the image, and the module whose text is read
-pub data Command : Type 0 where
-  Compile : (entry : Ref) (image home : List ℕ) → Command
+pub data Request : Type 0 where
+  Compile : (entry : Ref) (image home : List ℕ) → Request
 
 -- a name of at most 64 bytes
 abbrev pub is_short_name : List ℕ → Bool
@@ -16,28 +16,30 @@ is_short_name word = is_name word && nat_le (length word) 64
 abbrev pub is_file_byte : ℕ → Bool
 is_file_byte b = is_word_byte b || b == 45 || b == 46
 
--- a file of the folder: 1 to 255 such bytes, but not `.` or `..`
+-- the folder itself, or the one around it
+abbrev pub is_folder : List ℕ → Bool
+is_folder word = bytes_eq word (codes ".") || bytes_eq word (codes "..")
+
+-- a file of the folder: 1 to 255 such bytes
 abbrev pub is_file_name : List ℕ → Bool
-is_file_name word =
-    list_all is_file_byte word && nat_le 1 (length word) && nat_le (length word) 255
-    && not (bytes_eq word (codes ".")) && not (bytes_eq word (codes ".."))
+is_file_name word = list_all is_file_byte word && nat_le 1 (length word) && nat_le (length word) 255 && not (is_folder word)
 
 -- two names with a dot, which stands at the index
 abbrev pub names_at : List ℕ → Option ℕ → Option Ref
 names_at word None = None
 names_at word (Some k) =
     if is_short_name (take k word) && is_short_name (drop (k + 1) word)
-    then Some (record { module = take k word; path = drop (k + 1) word })
+    then Some (record { «module» = take k word; path = drop (k + 1) word })
     else None
 
 abbrev pub entry_of : List ℕ → Option Ref
 entry_of word = names_at word (position (λ b. b == 46) word)
 
-abbrev pub compile_of : Option Ref → List ℕ → List ℕ → Option Command
+abbrev pub compile_of : Option Ref → List ℕ → List ℕ → Option Request
 compile_of None image home = None
 compile_of (Some entry) image home = if is_file_name image && is_short_name home then Some (Compile entry image home) else None
 
-abbrev pub command_of : List (List ℕ) → Option Command
+abbrev pub command_of : List (List ℕ) → Option Request
 command_of (verb ∷ entry ∷ image ∷ home ∷ []) = if bytes_eq verb (codes "compile") then compile_of (entry_of entry) image home else None
 command_of words = None
 

@@ -1,5 +1,7 @@
 pub mod Commands
 pub mod Lines
 pub mod Answers
+pub mod Found
+pub mod Outside
 pub mod Views
 pub mod Calls

@@ -11,7 +11,7 @@ use Rattle.slang_tree.specs.declared.faults.RunCause.{RunCause}
 use Rattle.slang_tree.specs.declared.faults.RunCause.TheVariants as input
 use Rattle.slang_tree.specs.Codes.{code_number, code_name}
 use Rattle.slang_tree.specs.FormCodes.{form_number, form_name}
-use Rattle.spirv_words.specs.ImageCodes.{image_number, image_name}
+use Rattle.spirv_words.specs.Codes.{code_number as image_number, code_name as image_name}
 use Rattle.slang_cli.specs.declared.outcome.Outcome.{Outcome}
 use Rattle.slang_cli.specs.declared.outcome.Outcome.TheVariants.{Done, ModuleRefused, LinkRefused, Words, ReadFault, WriteFault, Memory, Undefined, Budget, Absent, FormRefused, ImageRefused, InputRefused}
 

@@ -1,16 +1,15 @@
 -- What contracts see of commands, answers and words: plain data.
-use Rattle.std.specs.Prelude.{ℕ, List, map, Option, Some, None, string_bytes}
-use Rattle.slang_cli.specs.declared.command.Command.{Command as Parsed}
-use Rattle.slang_cli.specs.declared.command.Command.TheVariants.{Compile as ParsedCompile}
+use Rattle.std.specs.Prelude.{ℕ, List, map, Option, Some, None, string_bytes, IsTrue}
+use Rattle.slang_cli.specs.declared.command.Compile.{Compile as Parsed}
 use Rattle.slang_cli.specs.declared.answer.Answer.{Answer as Made}
 use Rattle.slang_cli.specs.declared.answer.Answer.TheVariants.{Refuses as MadeRefuses, Puts as MadePuts}
-use Rattle.slang_cli.specs.Commands.{Command, Compile}
+use Rattle.slang_cli.specs.Commands.{Request, Compile, is_short_name}
 use Rattle.slang_cli.specs.Answers.{Answer, Refuses, Puts}
 
-abbrev pub command : Parsed → Command
-command (ParsedCompile home entry image only) = Compile (record { module = home.now; path = entry.now }) image.now only.now
+abbrev pub command : Parsed → Request
+command c = Compile (record { «module» = c.module.now; path = c.entry.now }) c.image.now c.home.now
 
-abbrev pub optional_command : Option Parsed → Option Command
+abbrev pub optional_command : Option Parsed → Option Request
 optional_command None = None
 optional_command (Some c) = Some (command c)
 
@@ -22,3 +21,7 @@ answer (MadePuts name bytes line) = Puts name bytes.items line.items
 abbrev pub line_of : Made → List ℕ
 line_of (MadeRefuses status line) = line.items
 line_of (MadePuts name bytes line) = line.items
+
+-- the module that is named by the command has a name
+abbrev pub IsNamed : Parsed → Type 0
+IsNamed c = IsTrue (is_short_name c.home.now)

@@ -1,0 +1,6 @@
+use Rattle.std.proofs.Common.{ap, ◌∙◌}
+use Rattle.spirv_words.specs.Words.{image_words}
+use Rattle.slang_cli.proofs.compile.image_words_of.Goals as goal
+
+pub returns : goal.returns
+returns c = c.in_ok-words.ensures ∙ ap image_words c.in_ok-made.ensures.image

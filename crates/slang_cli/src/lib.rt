@@ -1,0 +1,15 @@
+//! The commands of `slangc`: which words are one, what each answers, and the one call that does all that the program does.
+#![tactic(auto)]
+
+mod answer;
+mod calls;
+mod command;
+mod compile;
+mod laws;
+mod lines;
+mod outcome;
+mod top;
+
+pub use laws::at_most_one_answer;
+pub use outcome::Outcome;
+pub use top::slangc;
