@@ -1,5 +1,5 @@
 -- Instructions that are pushed one by one.
-use Rattle.std.proofs.Common.{◌≡◌, ℕ, ◌+◌, ◌<◌, List, [], ◌∷◌, ◌++◌, length, get_or, take, refl, sym, ap, ◌∙◌, append_assoc, add-zero, arith}
+use Rattle.std.proofs.Common.{◌≡◌, ℕ, ◌+◌, ◌<◌, List, [], ◌∷◌, ◌++◌, length, get_or, take, sym, ap, ◌∙◌, append_assoc, add-zero, arith}
 use Rattle.std.proofs.lemmas.Grind.{common_steps, take_at_read}
 use Rattle.spirv_words.specs.declared.opcodes.Op.TheVariants.{Constant}
 use Rattle.spirv_words.specs.declared.images.Instruction.{Instruction}

@@ -1,5 +1,5 @@
 -- The code of sums and of lists of statements, one part more at a time; no code of this form takes a temporary.
-use Rattle.std.proofs.Common.{◌≡◌, ℕ, ◌+◌, ◌*◌, ◌≤◌, List, [], ◌∷◌, ◌++◌, refl, sym, ap, ◌∙◌, append_assoc, append-nil, ◌<◌, length, get_or, take, subst}
+use Rattle.std.proofs.Common.{◌≡◌, ℕ, ◌+◌, List, [], ◌∷◌, ◌++◌, refl, sym, ap, ◌∙◌, append_assoc, append-nil, ◌<◌, length, get_or, take, subst}
 use Rattle.std.proofs.lemmas.Grind.{take_at_read}
 use Rattle.spirv_words.specs.declared.opcodes.Op.TheVariants.{IAdd, AccessChain, Store}
 use Rattle.first_form.specs.declared.shader.Statement.{Statement}

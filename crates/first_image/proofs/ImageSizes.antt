@@ -1,5 +1,5 @@
 -- How many words spell the image of a shader.
-use Rattle.std.proofs.Common.{◌≡◌, ℕ, ◌+◌, ◌*◌, ◌<◌, ◌≤◌, Bool, true, false, cond, nat_eq, nat_lt, List, [], ◌∷◌, ◌++◌, length, sum_by, refl, sym, ap, ◌∙◌, arith, length-append, lit≤, ◌≢◌, ltb-true, ltb-false, false-eqb}
+use Rattle.std.proofs.Common.{◌≡◌, ℕ, ◌+◌, ◌*◌, ◌<◌, ◌≤◌, Bool, true, false, cond, nat_eq, nat_lt, List, [], ◌∷◌, ◌++◌, length, sum_by, refl, sym, arith, length-append, lit≤, ◌≢◌, ltb-true, ltb-false, false-eqb}
 use Rattle.spirv_words.specs.declared.opcodes.Op.TheVariants.{IAdd, AccessChain, Store}
 use Rattle.std.proofs.lemmas.Bool.Decides.{nat_tests}
 use Rattle.std.proofs.lemmas.List.Sums.{sum_by-cons}
@@ -16,7 +16,7 @@ use Rattle.first_form.specs.Shaders.{IsShader}
 use Rattle.first_image.specs.Templates.{ins, Tables, Code, item_code, more_code, sum_code, statement_code, statements_code}
 use Rattle.first_image.specs.Sections.{beginning, plain_types, constants_code, pointer_types, nulls}
 use Rattle.first_image.specs.Image.{insert, item_constants, items_constants, sum_constants, statement_constants, statements_constants, constants, array_id, pointers_id, nulls_id, buffer_id, entry_id, tables, qualified, preamble, buffer_types, more_types, variables, entry_code, image_code, image_of}
-use Rattle.first_image.specs.Emitted.{entry_start, entry_end}
+use Rattle.first_image.specs.Emitted.{entry_end}
 use Rattle.first_image.proofs.BodyCode.{plus_item}
 use Rattle.first_image.proofs.SpelledImages.{free_name}
 

@@ -1,7 +1,7 @@
 -- That the image of a shader can be spelled.
-use Rattle.std.proofs.Common.{◌≡◌, ◌≢◌, ℕ, ◌+◌, ◌*◌, ◌<◌, ◌≤◌, Bool, true, false, ◌&&◌, nat_lt, nat_le, cond, List, [], ◌∷◌, ◌++◌, length, IsTrue, Option, Some, refl, sym, ap, subst, ◌∙◌, ◌||◌, arith, ltb-true, leb-true, le-leb, length-append, append-nil, lit<}
+use Rattle.std.proofs.Common.{◌≡◌, ℕ, ◌+◌, ◌*◌, ◌<◌, ◌≤◌, Bool, true, false, ◌&&◌, nat_lt, List, [], ◌∷◌, ◌++◌, length, IsTrue, Some, refl, sym, ap, ◌∙◌, ◌||◌, arith, ltb-true, leb-true, le-leb, length-append, append-nil, lit<}
 use Rattle.std.proofs.lemmas.Bool.Decides.{nat_tests}
-use Rattle.std.specs.List.{list_all, AllByRecursion}
+use Rattle.std.specs.List.{list_all}
 use Rattle.spirv_words.specs.declared.opcodes.Op.TheVariants.{Name, EntryPoint, ExecutionMode, Constant, IAdd, AccessChain, Store}
 use Rattle.spirv_words.specs.declared.images.Instruction.{Instruction}
 use Rattle.spirv_words.specs.Strings.{string_words, IsText}

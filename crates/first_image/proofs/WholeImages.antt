@@ -1,9 +1,8 @@
 -- The image, from its parts as they are emitted.
-use Rattle.std.proofs.Common.{◌≡◌, ℕ, ◌+◌, List, [], ◌∷◌, ◌++◌, refl, sym, ap, ◌∙◌, append_assoc}
+use Rattle.std.proofs.Common.{◌≡◌, ℕ, ◌+◌, List, ◌++◌, ap, ◌∙◌, append_assoc}
 use Rattle.spirv_words.specs.declared.images.Instruction.{Instruction}
 use Rattle.spirv_words.specs.declared.images.Image.{Image}
 use Rattle.first_form.specs.declared.shader.Shader.{Shader}
-use Rattle.first_form.specs.declared.shader.Statement.{Statement}
 use Rattle.first_image.specs.Templates.{statements_code}
 use Rattle.first_image.specs.Sections.{beginning, plain_types, constants_code, pointer_types, nulls}
 use Rattle.first_image.specs.Image.{constants, buffer_types, more_types, variables, image_of}
