@@ -7,3 +7,4 @@ pub mod Numbers
 pub mod Once
 pub mod Answered
 pub mod Whole
+pub mod Sizes
