@@ -90,7 +90,7 @@ too_large n z a b c =
     let more : n * 1 ≤ n * z = mul-le-mul_left n (leb-true 1 z b) in
     absurd (omega (arith, more, leb-false n 1024 a, leb-true (n * z) 1024 c))
 
-group-is : (x y z : ℕ) → is_group x y z ≡ is_none (wrong_size x y z)
+pub group-is : (x y z : ℕ) → is_group x y z ≡ is_none (wrong_size x y z)
 group-is x y z =
     sizes (nat_le 1 x) (nat_le x 1024) (nat_le 1 y) (nat_le y 1024) (nat_le (x * y) 1024) (nat_le 1 z) (nat_le z 64) (nat_le (x * y * z) 1024) (too_large (x * y) z)
 

@@ -8,3 +8,4 @@ pub mod Numbers
 pub mod Once
 pub mod Answered
 pub mod Whole
+pub mod Sizes

@@ -17,7 +17,7 @@ mod writing;
 pub use bytes::{from_bytes, to_bytes};
 pub use faults::{ImageCode, ImageFault};
 pub use images::{Image, Instruction};
-pub use laws::words_have_one_reading;
+pub use laws::{the_wrong_word_is_the_first, words_have_one_reading};
 pub use opcodes::Op;
 pub use reading::read;
 pub use strings::{string_is_read, string_is_short, string_words};
