@@ -9,7 +9,8 @@ use Rattle.first_form.specs.declared.shader.Statement.{Statement}
 use Rattle.first_form.specs.declared.shader.Sum.{Sum}
 use Rattle.first_form.specs.declared.shader.Item.{Item}
 use Rattle.first_form.specs.declared.shader.Item.TheVariants.{Number, X}
-use Rattle.first_form.specs.Words.{is_name, is_free_name}
+use Rattle.slang_tree.specs.Letters.{is_name}
+use Rattle.first_form.specs.Words.{is_free_name}
 use Rattle.first_form.specs.Tokens.{Word, Mark}
 use Rattle.first_form.specs.Shaders.{IsItem, IsSum, IsStatement}
 use Rattle.first_form.specs.Grammar.{component, item_tokens, term_tokens, sum_tokens, before_index, before_value, after_value, statement_tokens, item_bytes, sum_bytes, statement_bytes}

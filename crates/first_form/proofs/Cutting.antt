@@ -4,7 +4,7 @@ use Rattle.std.specs.Prelude.{◌==◌}
 use Rattle.std.specs.List.{list_all, prefix_len}
 use Rattle.std.proofs.lemmas.Bool.{and_parts, and_from, or_cases, eqb-true, false≢true, false_from_ne_true}
 use Rattle.std.proofs.lemmas.List.{take_at, drop_at, take-append-drop}
-use Rattle.first_form.specs.Words.{is_word_byte}
+use Rattle.slang_tree.specs.Letters.{is_word_byte}
 use Rattle.first_form.specs.Tokens.{Token, Word, Mark, Text, is_blank, is_mark, is_text_byte, spelling, IsToken, IsWhole, Stops, Begins}
 use Rattle.first_form.specs.Reading.{closed, quoted, longest_word, token_at, next}
 

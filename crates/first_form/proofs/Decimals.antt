@@ -12,7 +12,7 @@ use Rattle.std.proofs.lemmas.Fmt.{decimal-digits_value, digits_decimal, digits_v
 use Rattle.std.proofs.lemmas.Str.{digit_value_digit}
 use Rattle.std.proofs.lemmas.Str.Parse.{IsDigitsTest, IsNumeralModel, numerals_by_value, digits_value-take-le}
 use Rattle.std.proofs.lemmas.Int.Digits.{digits_value_more}
-use Rattle.first_form.specs.Words.{is_digit}
+use Rattle.slang_tree.specs.Letters.{is_digit}
 use Rattle.first_form.specs.Reading.{small, is_numeral, number_of, literal_of}
 use Rattle.first_form.proofs.Steps.{if_some}
 

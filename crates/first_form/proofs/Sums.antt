@@ -9,7 +9,8 @@ use Rattle.std.proofs.lemmas.Slice.Eq.{bytes_eq-Decides}
 use Rattle.first_form.specs.declared.shader.Sum.{Sum}
 use Rattle.first_form.specs.declared.shader.Item.{Item}
 use Rattle.first_form.specs.declared.shader.Item.TheVariants.{Number, X}
-use Rattle.first_form.specs.Words.{is_letter, is_digit, is_name, is_word_byte, is_free_name, is_reserved}
+use Rattle.slang_tree.specs.Letters.{is_letter, is_digit, is_name, is_word_byte}
+use Rattle.first_form.specs.Words.{is_free_name, is_reserved}
 use Rattle.first_form.specs.Tokens.{Token, Word, Mark, Text}
 use Rattle.first_form.specs.Shaders.{IsItem, IsSum}
 use Rattle.first_form.specs.Grammar.{number, component, item_tokens, plus, term_tokens, sum_tokens}

@@ -6,7 +6,7 @@ use Rattle.first_form.specs.declared.tokens.Set.{Set}
 use Rattle.first_form.specs.declared.tokens.Set.TheVariants as set
 use Rattle.first_form.specs.declared.grammar.Head as head
 use Rattle.first_form.specs.Reading.{Head}
-use Rattle.first_form.specs.Words.{is_word_byte}
+use Rattle.slang_tree.specs.Letters.{is_word_byte}
 use Rattle.first_form.specs.Tokens.{Token, Word, Mark, Text, is_blank, is_text_byte}
 
 abbrev pub is_in : Set → ℕ → Bool

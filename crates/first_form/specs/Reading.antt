@@ -12,7 +12,8 @@ use Rattle.first_form.specs.declared.shader.Statement.{Statement}
 use Rattle.first_form.specs.declared.shader.Sum.{Sum}
 use Rattle.first_form.specs.declared.shader.Item.{Item}
 use Rattle.first_form.specs.declared.shader.Item.TheVariants.{Number, X}
-use Rattle.first_form.specs.Words.{is_word_byte, is_digit, is_free_name}
+use Rattle.slang_tree.specs.Letters.{is_word_byte, is_digit}
+use Rattle.first_form.specs.Words.{is_free_name}
 use Rattle.first_form.specs.Tokens.{Token, Word, Mark, Text, is_blank, is_mark, is_text_byte}
 use Rattle.first_form.specs.Grammar.{comma, before_buffer, before_group, before_entry, before_parameter, before_statements, closing, component, plus, before_index, before_value, after_value}
 

@@ -6,7 +6,7 @@
 -- `/` begins no token here.
 use Rattle.std.specs.Prelude.{◌≡◌, ◌<◌, ℕ, Bool, false, not, List, [], ◌∷◌, ◌++◌, ◌&&◌, ◌||◌, ◌==◌, length, IsTrue, nat_le}
 use Rattle.std.specs.List.{list_all}
-use Rattle.first_form.specs.Words.{is_word_byte}
+use Rattle.slang_tree.specs.Letters.{is_word_byte}
 
 pub data Token : Type 0 where
   -- letters, digits and `_`

@@ -3,13 +3,13 @@
 ghost use Rattle.std.specs.Prelude.{◌≡◌, IsTrue};
 ghost use Rattle.std.specs.List.{list_all};
 ghost use Rattle.std.specs.Str.Parse.{digits_value};
-ghost use Rattle.first_form.specs.Words as words;
+ghost use Rattle.slang_tree.specs.Letters as letters;
 ghost use Rattle.first_form.specs.Reading as read;
 
 use crate::words::is_digit;
 
 fn are_digits(bytes: &[u8]) -> bool
-    ensures { result ≡ list_all words.is_digit bytes.now }
+    ensures { result ≡ list_all letters.is_digit bytes.now }
 {
     bytes.iter().all(|b| is_digit(*b))
 }
@@ -25,7 +25,7 @@ fn is_numeral(bytes: &[u8]) -> bool
 
 /// What the digits are worth, below 2^32.
 fn small_value(digits: &[u8]) -> Option<u32>
-    requires { IsTrue (list_all words.is_digit digits.now) }
+    requires { IsTrue (list_all letters.is_digit digits.now) }
     ensures { result ≡ read.small (digits_value 10 digits.now) }
 {
     let mut value: u64 = 0;

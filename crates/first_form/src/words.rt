@@ -4,6 +4,7 @@ ghost use Rattle.std.specs.Prelude.{◌≡◌};
 ghost use Rattle.std.specs.List.{list_any};
 ghost use Rattle.std.specs.Str.{bytes_eq};
 ghost use Rattle.first_form.specs.Words as spec;
+ghost use Rattle.slang_tree.specs.Letters as letters;
 
 use slang_tree::is_name;
 use slang_tree::limits::NAME_BYTES;
@@ -209,7 +210,7 @@ pub fn is_reserved(word: &[u8]) -> bool
 
 /// Whether it is a decimal digit.
 pub fn is_digit(b: u8) -> bool
-    ensures { result ≡ spec.is_digit b }
+    ensures { result ≡ letters.is_digit b }
 {
     b >= b'0' && b <= b'9'
 }

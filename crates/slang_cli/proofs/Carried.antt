@@ -31,5 +31,5 @@ the_answer entry image home f a found held compiled =
     let some = some_contents text_limit (text_name home) found in
     record {
       is = λ m told. compiled m (held m told);
-      real = compiles_real some.0 entry image home (compiled some.0 some.1)
+      real = compiles_real some.0 entry image home (compiled some.0 some.1);
     }

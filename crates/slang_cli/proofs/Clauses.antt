@@ -17,33 +17,33 @@ some_is e = cc
 
 settled : (s : Outcome) (P : Type 0) → P → WhereSettled s P
 settled Done P p = p
-settled (ModuleRefused a b c) P p = p
-settled (LinkRefused a) P p = p
+settled (ModuleRefused x y z) P p = p
+settled (LinkRefused x) P p = p
 settled Words P p = p
 settled ReadFault P p = tt
 settled WriteFault P p = tt
 settled Memory P p = tt
-settled (Undefined a b) P p = p
-settled (Budget a) P p = p
-settled (Absent a) P p = p
-settled (FormRefused a b c) P p = p
-settled (ImageRefused a b) P p = p
-settled (InputRefused a) P p = p
+settled (Undefined x y) P p = p
+settled (Budget x) P p = p
+settled (Absent x) P p = p
+settled (FormRefused x y z) P p = p
+settled (ImageRefused x y) P p = p
+settled (InputRefused x) P p = p
 
 where_refused : (s : Outcome) (P : Type 0) → P → WhereRefused s P
 where_refused Done P p = tt
-where_refused (ModuleRefused a b c) P p = p
-where_refused (LinkRefused a) P p = p
+where_refused (ModuleRefused x y z) P p = p
+where_refused (LinkRefused x) P p = p
 where_refused Words P p = p
 where_refused ReadFault P p = p
 where_refused WriteFault P p = tt
 where_refused Memory P p = p
-where_refused (Undefined a b) P p = p
-where_refused (Budget a) P p = p
-where_refused (Absent a) P p = p
-where_refused (FormRefused a b c) P p = p
-where_refused (ImageRefused a b) P p = p
-where_refused (InputRefused a) P p = p
+where_refused (Undefined x y) P p = p
+where_refused (Budget x) P p = p
+where_refused (Absent x) P p = p
+where_refused (FormRefused x y z) P p = p
+where_refused (ImageRefused x y) P p = p
+where_refused (InputRefused x) P p = p
 
 halt_words : (c : Option Request) (f g : FilesNow) → IsHalt c f g Words → c ≡ None
 halt_words None f g h = refl
@@ -59,92 +59,92 @@ halt_write (Some c) f g h = h
 
 halt_none : (f g : FilesNow) (s : Outcome) → IsHalt None f g s → s ≡ Words
 halt_none f g Done h = absurd h
-halt_none f g (ModuleRefused a b c) h = absurd h
-halt_none f g (LinkRefused a) h = absurd h
+halt_none f g (ModuleRefused x y z) h = absurd h
+halt_none f g (LinkRefused x) h = absurd h
 halt_none f g Words h = refl
 halt_none f g ReadFault h = absurd h
 halt_none f g WriteFault h = absurd h
 halt_none f g Memory h = absurd h
-halt_none f g (Undefined a b) h = absurd h
-halt_none f g (Budget a) h = absurd h
-halt_none f g (Absent a) h = absurd h
-halt_none f g (FormRefused a b c) h = absurd h
-halt_none f g (ImageRefused a b) h = absurd h
-halt_none f g (InputRefused a) h = absurd h
+halt_none f g (Undefined x y) h = absurd h
+halt_none f g (Budget x) h = absurd h
+halt_none f g (Absent x) h = absurd h
+halt_none f g (FormRefused x y z) h = absurd h
+halt_none f g (ImageRefused x y) h = absurd h
+halt_none f g (InputRefused x) h = absurd h
 
 halt_unsettled : (c : Request) (f g : FilesNow) (s : Outcome) (P : Type 0) → IsHalt (Some c) f g s → WhereSettled s P
 halt_unsettled c f g Done P h = absurd h
-halt_unsettled c f g (ModuleRefused a b c) P h = absurd h
-halt_unsettled c f g (LinkRefused a) P h = absurd h
+halt_unsettled c f g (ModuleRefused x y z) P h = absurd h
+halt_unsettled c f g (LinkRefused x) P h = absurd h
 halt_unsettled c f g Words P h = absurd h
 halt_unsettled c f g ReadFault P h = tt
 halt_unsettled c f g WriteFault P h = absurd h
 halt_unsettled c f g Memory P h = tt
-halt_unsettled c f g (Undefined a b) P h = absurd h
-halt_unsettled c f g (Budget a) P h = absurd h
-halt_unsettled c f g (Absent a) P h = absurd h
-halt_unsettled c f g (FormRefused a b c) P h = absurd h
-halt_unsettled c f g (ImageRefused a b) P h = absurd h
-halt_unsettled c f g (InputRefused a) P h = absurd h
+halt_unsettled c f g (Undefined x y) P h = absurd h
+halt_unsettled c f g (Budget x) P h = absurd h
+halt_unsettled c f g (Absent x) P h = absurd h
+halt_unsettled c f g (FormRefused x y z) P h = absurd h
+halt_unsettled c f g (ImageRefused x y) P h = absurd h
+halt_unsettled c f g (InputRefused x) P h = absurd h
 
 halt_line : (c : Option Request) (f g : FilesNow) (m : Contents) (s : Outcome) → IsHalt c f g s → IsLine c m (refusal_line s)
 halt_line None f g m Done h = absurd h
-halt_line None f g m (ModuleRefused a b c) h = absurd h
-halt_line None f g m (LinkRefused a) h = absurd h
+halt_line None f g m (ModuleRefused x y z) h = absurd h
+halt_line None f g m (LinkRefused x) h = absurd h
 halt_line None f g m Words h = refl
 halt_line None f g m ReadFault h = absurd h
 halt_line None f g m WriteFault h = absurd h
 halt_line None f g m Memory h = absurd h
-halt_line None f g m (Undefined a b) h = absurd h
-halt_line None f g m (Budget a) h = absurd h
-halt_line None f g m (Absent a) h = absurd h
-halt_line None f g m (FormRefused a b c) h = absurd h
-halt_line None f g m (ImageRefused a b) h = absurd h
-halt_line None f g m (InputRefused a) h = absurd h
+halt_line None f g m (Undefined x y) h = absurd h
+halt_line None f g m (Budget x) h = absurd h
+halt_line None f g m (Absent x) h = absurd h
+halt_line None f g m (FormRefused x y z) h = absurd h
+halt_line None f g m (ImageRefused x y) h = absurd h
+halt_line None f g m (InputRefused x) h = absurd h
 halt_line (Some c) f g m Done h = absurd h
-halt_line (Some c) f g m (ModuleRefused a b c) h = absurd h
-halt_line (Some c) f g m (LinkRefused a) h = absurd h
+halt_line (Some c) f g m (ModuleRefused x y z) h = absurd h
+halt_line (Some c) f g m (LinkRefused x) h = absurd h
 halt_line (Some c) f g m Words h = absurd h
 halt_line (Some c) f g m ReadFault h = inr (inl refl)
 halt_line (Some c) f g m WriteFault h = absurd h
 halt_line (Some c) f g m Memory h = inr (inr refl)
-halt_line (Some c) f g m (Undefined a b) h = absurd h
-halt_line (Some c) f g m (Budget a) h = absurd h
-halt_line (Some c) f g m (Absent a) h = absurd h
-halt_line (Some c) f g m (FormRefused a b c) h = absurd h
-halt_line (Some c) f g m (ImageRefused a b) h = absurd h
-halt_line (Some c) f g m (InputRefused a) h = absurd h
+halt_line (Some c) f g m (Undefined x y) h = absurd h
+halt_line (Some c) f g m (Budget x) h = absurd h
+halt_line (Some c) f g m (Absent x) h = absurd h
+halt_line (Some c) f g m (FormRefused x y z) h = absurd h
+halt_line (Some c) f g m (ImageRefused x y) h = absurd h
+halt_line (Some c) f g m (InputRefused x) h = absurd h
 
 rose_before : (a b c : ℕ) → a ≤ b → Rose b c → Rose a c
 rose_before a b c le r = ⊎_elim (λ lt. inl (omega (arith, lt))) (λ e. inr e) r
 
 halt_before : (c : Option Request) (f f1 g : FilesNow) (s : Outcome) → f.reads ≤ f1.reads → IsHalt c f1 g s → IsHalt c f g s
 halt_before None f f1 g Done le h = absurd h
-halt_before None f f1 g (ModuleRefused a b c) le h = absurd h
-halt_before None f f1 g (LinkRefused a) le h = absurd h
+halt_before None f f1 g (ModuleRefused x y z) le h = absurd h
+halt_before None f f1 g (LinkRefused x) le h = absurd h
 halt_before None f f1 g Words le h = tt
 halt_before None f f1 g ReadFault le h = absurd h
 halt_before None f f1 g WriteFault le h = absurd h
 halt_before None f f1 g Memory le h = absurd h
-halt_before None f f1 g (Undefined a b) le h = absurd h
-halt_before None f f1 g (Budget a) le h = absurd h
-halt_before None f f1 g (Absent a) le h = absurd h
-halt_before None f f1 g (FormRefused a b c) le h = absurd h
-halt_before None f f1 g (ImageRefused a b) le h = absurd h
-halt_before None f f1 g (InputRefused a) le h = absurd h
+halt_before None f f1 g (Undefined x y) le h = absurd h
+halt_before None f f1 g (Budget x) le h = absurd h
+halt_before None f f1 g (Absent x) le h = absurd h
+halt_before None f f1 g (FormRefused x y z) le h = absurd h
+halt_before None f f1 g (ImageRefused x y) le h = absurd h
+halt_before None f f1 g (InputRefused x) le h = absurd h
 halt_before (Some c) f f1 g Done le h = absurd h
-halt_before (Some c) f f1 g (ModuleRefused a b c) le h = absurd h
-halt_before (Some c) f f1 g (LinkRefused a) le h = absurd h
+halt_before (Some c) f f1 g (ModuleRefused x y z) le h = absurd h
+halt_before (Some c) f f1 g (LinkRefused x) le h = absurd h
 halt_before (Some c) f f1 g Words le h = absurd h
 halt_before (Some c) f f1 g ReadFault le h = rose_before f.reads f1.reads g.reads le h
 halt_before (Some c) f f1 g WriteFault le h = absurd h
 halt_before (Some c) f f1 g Memory le h = tt
-halt_before (Some c) f f1 g (Undefined a b) le h = absurd h
-halt_before (Some c) f f1 g (Budget a) le h = absurd h
-halt_before (Some c) f f1 g (Absent a) le h = absurd h
-halt_before (Some c) f f1 g (FormRefused a b c) le h = absurd h
-halt_before (Some c) f f1 g (ImageRefused a b) le h = absurd h
-halt_before (Some c) f f1 g (InputRefused a) le h = absurd h
+halt_before (Some c) f f1 g (Undefined x y) le h = absurd h
+halt_before (Some c) f f1 g (Budget x) le h = absurd h
+halt_before (Some c) f f1 g (Absent x) le h = absurd h
+halt_before (Some c) f f1 g (FormRefused x y z) le h = absurd h
+halt_before (Some c) f f1 g (ImageRefused x y) le h = absurd h
+halt_before (Some c) f f1 g (InputRefused x) le h = absurd h
 
 -- the fault of the sink is no other status
 no_fault : {A : Type 0} {r s : Outcome} → r ≡ WriteFault → r ≡ s → (WriteFault ≡ s → ⊥) → A
@@ -152,7 +152,7 @@ no_fault e h other = absurd (other (sym e ∙ h))
 
 -- a real status is none of these
 unreal : {A : Type 0} (s t : Outcome) → s ≡ t → IsReal s → (IsReal t → ⊥) → A
-unreal s t e h no = absurd (no (subst (λ (x : Outcome). IsReal x) e h))
+unreal s t e h never = absurd (never (subst (λ (x : Outcome). IsReal x) e h))
 
 -- ---- a call whose files were read first
 
@@ -207,17 +207,22 @@ pub answer : (c : Option Request) (f g : FilesNow) (o n : SinkNow) (m : Contents
 answer c f g o n m request (halted status h stays p) told e =
     let P : Outcome → Type 0 = λ s. WhereSettled s (Answered request m s g.contents o n) in
     ⊎_elim
-      (λ all. subst P (sym all.1) (halt_unsettled request f g status (Answered request m status g.contents o n) (subst (λ (x : Option Request). IsHalt x f g status) e h)))
-      (λ part. subst P (sym part.1) tt)
-      p
+    (λ all. subst P (sym all.1) (halt_unsettled request f g status (Answered request m status g.contents o n) (subst (λ (x : Option Request). IsHalt x f g status) e h)))
+    (λ part. subst P (sym part.1) tt)
+    p
 answer c f g o n m request (answered command a is_c is after p) told e =
     let P : Outcome → Type 0 = λ s. WhereSettled s (Answered request m s g.contents o n) in
     let same : command ≡ request = some_is (sym is_c ∙ e) in
     ⊎_elim
-      (λ all. subst P (sym all.1) (settled (outcome_of a) (Answered request m (outcome_of a) g.contents o n) (record {
-        answer = a; is = subst (λ (x : Request). IsAnswer x m a) same (is.is m told); status_is = refl; files = after m told; line = all.0 })))
-      (λ part. subst P (sym part.1) tt)
-      p
+    (λ all. subst P (sym all.1) (settled (outcome_of a) (Answered request m (outcome_of a) g.contents o n) (record {
+      answer = a;
+      is = subst (λ (x : Request). IsAnswer x m a) same (is.is m told);
+      status_is = refl;
+      files = after m told;
+      line = all.0;
+    })))
+    (λ part. subst P (sym part.1) tt)
+    p
 answer c f g o n m request (cut command name bytes line is_c is partly rose taken) told e = tt
 
 holds_same : (c : Option Request) (m : Contents) (n : Option Contents) → n ≡ Some m → MayHold c m n
@@ -227,8 +232,14 @@ holds_same (Some c) m n e = inl e
 holds_after : (c : Request) (m : Contents) (n : Option Contents) (a : Answer) → IsAnswer c m a → n ≡ Some (contents_after m a) → MayHold (Some c) m n
 holds_after c m n (Refuses status) is e = inl e
 holds_after c m n (Puts name bytes line) is e = inr (record {
-  name = name; bytes = bytes; line = line; is = is; left = with_entry m name bytes; files = e;
-  partly = inr (bytes, ([], sym (append-nil bytes)), refl) })
+  name = name;
+  bytes = bytes;
+  line = line;
+  is = is;
+  left = with_entry m name bytes;
+  files = e;
+  partly = inr (bytes, ([], sym (append-nil bytes)), refl);
+})
 
 pub put_in_part : (c : Option Request) (f g : FilesNow) (o n : SinkNow) (m : Contents) {result : Outcome} → Runs c f g o n result → f.contents ≡ Some m → MayHold c m g.contents
 put_in_part c f g o n m (halted status h stays p) told = holds_same c m g.contents (stays ∙ told)
@@ -255,17 +266,17 @@ whole_line c f g o n b (cut command name bytes line is_c is partly rose taken) t
 pub part_of_line : (c : Option Request) (f g : FilesNow) (o n : SinkNow) (m : Contents) (b : List ℕ) {result : Outcome} → Runs c f g o n result → f.contents ≡ Some m → o.bytes ≡ Some b → result ≡ WriteFault → (line p : List ℕ) × IsLine c m line × IsPrefixOf p line × (n.bytes ≡ Some (b ++ p))
 part_of_line c f g o n m b (halted status h stays p) told took e =
     ⊎_elim
-      (λ all. absurd (halt_write c f g (subst (λ (s : Outcome). IsHalt c f g s) (sym all.1 ∙ e) h)))
-      (λ part. let x = part.0.bytes b took in (refusal_line status, x.0, halt_line c f g m status h, x.1, x.2))
-      p
+    (λ all. absurd (halt_write c f g (subst (λ (s : Outcome). IsHalt c f g s) (sym all.1 ∙ e) h)))
+    (λ part. let x = part.0.bytes b took in (refusal_line status, x.0, halt_line c f g m status h, x.1, x.2))
+    p
 part_of_line c f g o n m b (answered command a is_c is after p) told took e =
     ⊎_elim
-      (λ all. unreal (outcome_of a) WriteFault (sym all.1 ∙ e) is.real (λ x. x))
-      (λ part.
-        let x = part.0.bytes b took in
-        let line : IsLine (Some command) m (printed a) = inl (a, is.is m told, refl) in
-        (printed a, x.0, subst (λ (x : Option Request). IsLine x m (printed a)) (sym is_c) line, x.1, x.2))
-      p
+    (λ all. unreal (outcome_of a) WriteFault (sym all.1 ∙ e) is.real (λ x. x))
+    (λ part.
+    let x = part.0.bytes b took in
+    let line : IsLine (Some command) m (printed a) = inl (a, is.is m told, refl) in
+    (printed a, x.0, subst (λ (x : Option Request). IsLine x m (printed a)) (sym is_c) line, x.1, x.2))
+    p
 part_of_line c f g o n m b (cut command name bytes line is_c is partly rose taken) told took e =
     let is_line : IsLine (Some command) m line = inl (Puts name bytes line, is.is m told, refl) in
     (line, [], subst (λ (x : Option Request). IsLine x m line) (sym is_c) is_line, (line, refl), taken ∙ took ∙ ap (λ (l : List ℕ). Some l) (sym (append-nil b)))

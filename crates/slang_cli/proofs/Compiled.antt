@@ -15,6 +15,6 @@ answered m entry image home a b e h = subst (λ (x : Answer). Compiles m entry i
 pub from_shader : (m : Contents) (entry : Ref) (image home text : List ℕ) (shader : Shader) (a : Answer) → m (text_name home) ≡ Some text → length text ≤ text_limit → FirstForm text shader → OfShader entry image home shader a → Compiles m entry image home a
 from_shader m entry image home text shader a held short form of =
     ⊎_elim
-      (λ is. answered m entry image home a _ is.1 (puts {text = text} {shader = shader} held short form is.0))
-      (λ other. answered m entry image home a _ other.1 (no_entry {text = text} {shader = shader} held short form other.0))
-      of
+    (λ is. answered m entry image home a _ is.1 (puts {text = text} {shader = shader} held short form is.0))
+    (λ other. answered m entry image home a _ other.1 (no_entry {text = text} {shader = shader} held short form other.0))
+    of

@@ -1,5 +1,6 @@
 pub mod Parsing
 pub mod Named
+pub mod Statements
 pub mod Results
 pub mod Compiled
 pub mod FoundText

@@ -31,9 +31,17 @@ module _ (laws : Laws) (m : Contents) (entry : Ref) (image home : List ℕ) (tex
   compiled_means (not_yet p l f) e = absurd cc
   compiled_means (no_entry p l f n) e = absurd cc
   compiled_means (puts {text = t} {shader = s} p l f is_entry) e = record {
-    text = t; shader = s; made = image_of home s; written = image_words (image_of home s); read = p; form = f; entry_is = is_entry;
-    made_is = refl; put = laws.here m image _; spelled = record { can_be = laws.spelled home s text short f.is_shader; are = refl };
-    agree = laws.agree home s
+    text = t;
+    shader = s;
+    made = image_of home s;
+    written = image_words (image_of home s);
+    read = p;
+    form = f;
+    entry_is = is_entry;
+    made_is = refl;
+    put = laws.here m image _;
+    spelled = record { can_be = laws.spelled home s text short f.is_shader; are = refl };
+    agree = laws.agree home s;
   }
 
   pub meant : (c : Option Request) (f g : FilesNow) (o n : SinkNow) {result : Outcome} → Runs c f g o n result → f.contents ≡ Some m → c ≡ Some (Compile entry image home) → result ≡ Done → (after : Contents) × (g.contents ≡ Some after) × Means entry image home m after

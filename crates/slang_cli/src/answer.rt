@@ -6,8 +6,15 @@ use slang_tree::Name;
 /// A command is refused, with its line; or it gives a file its bytes, and then prints a line.
 #[derive(Debug, Drop)]
 pub enum Answer {
-    Refuses { status: Outcome, line: Vec<u8> },
-    Puts { name: Name, bytes: Vec<u8>, line: Vec<u8> },
+    Refuses {
+        status: Outcome,
+        line: Vec<u8>,
+    },
+    Puts {
+        name: Name,
+        bytes: Vec<u8>,
+        line: Vec<u8>,
+    },
 }
 
 /// Why a command came to no answer: a read failed, or memory was wanting.

@@ -101,7 +101,12 @@ fn deliver<F: Files, S: Sink>(files: &mut F, out: &mut S, answer: Answer) -> Out
 }
 
 /// The whole call: the words are told apart, the command is carried out, and its answer is put and printed.
-fn call<F: Files, S: Sink>(alloc: Global, words: &[String], files: &mut F, out: &mut S) -> Outcome
+pub fn call<F: Files, S: Sink>(
+    alloc: Global,
+    words: &[String],
+    files: &mut F,
+    out: &mut S,
+) -> Outcome
     ensures runs { Runs (command_of (map string_bytes words.now))
         (record { contents = F.told files.old; reads = F.read_faults files.old; puts = F.put_faults files.old })
         (record { contents = F.told files.new; reads = F.read_faults files.new; puts = F.put_faults files.new })

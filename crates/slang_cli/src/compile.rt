@@ -15,9 +15,9 @@ ghost use Rattle.slang_tree.specs.declared.faults.LinkCause.TheVariants.{NoEntry
 ghost use Rattle.slang_cli.specs.Found.{FoundWithin, IsFound};
 ghost use Rattle.slang_cli.specs.Views as view;
 
+use crate::Outcome;
 use crate::answer::{Answer, Halt};
 use crate::lines::{line, number, refusal_line};
-use crate::Outcome;
 use first_form::{Shader, read_shader};
 use first_image::emit;
 use slang_store::{FileFault, Files, Found};
@@ -53,7 +53,14 @@ fn module_refused(
 {
     let module = Name::from_slice(alloc, home)?;
     let place = Place { start: at, end: at };
-    refuses(alloc, Outcome::ModuleRefused { module, place, code })
+    refuses(
+        alloc,
+        Outcome::ModuleRefused {
+            module,
+            place,
+            code,
+        },
+    )
 }
 
 fn no_entry(alloc: Global, module: &[u8], entry: &[u8]) -> Result<Answer, AllocError>

@@ -8,6 +8,8 @@ mod compile;
 mod laws;
 mod lines;
 mod outcome;
+#[cfg(test)]
+mod tests;
 mod top;
 
 pub use laws::at_most_one_answer;

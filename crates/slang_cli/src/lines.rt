@@ -102,7 +102,13 @@ fn module_line(
     ensures { IfOk result (λ line. line.items ≡ spec.refusal_line (ModuleRefused «module».now place code)) }
 {
     let printed = number(alloc, u64::from(code.number()))?;
-    placed_line(alloc, module.as_bytes(), printed.as_bytes(), code.name().as_bytes(), place)
+    placed_line(
+        alloc,
+        module.as_bytes(),
+        printed.as_bytes(),
+        code.name().as_bytes(),
+        place,
+    )
 }
 
 fn placed_line(
@@ -128,12 +134,7 @@ fn placed_line(
     )
 }
 
-fn form_line(
-    alloc: Global,
-    name: &Name,
-    place: u64,
-    code: FormCode,
-) -> Result<Vec<u8>, AllocError>
+fn form_line(alloc: Global, name: &Name, place: u64, code: FormCode) -> Result<Vec<u8>, AllocError>
     ensures { IfOk result (λ line. line.items ≡ spec.refusal_line (FormRefused name.now place code)) }
 {
     let printed = number(alloc, u64::from(code.number()))?;
@@ -208,11 +209,7 @@ fn input_line(alloc: Global, cause: RunCause) -> Result<Vec<u8>, AllocError>
         RunCause::NoEntry => line(alloc, b"input", &[b"506", b"NoEntry"]),
         RunCause::BufferText { place } => {
             let place = number(alloc, place)?;
-            line(
-                alloc,
-                b"input",
-                &[b"504", b"BufferText", place.as_bytes()],
-            )
+            line(alloc, b"input", &[b"504", b"BufferText", place.as_bytes()])
         }
         RunCause::DispatchLimit { product } => {
             let product = wide_number(alloc, product)?;
@@ -228,12 +225,7 @@ fn input_line(alloc: Global, cause: RunCause) -> Result<Vec<u8>, AllocError>
             line(
                 alloc,
                 b"input",
-                &[
-                    b"503",
-                    b"BufferMissing",
-                    set.as_bytes(),
-                    binding.as_bytes(),
-                ],
+                &[b"503", b"BufferMissing", set.as_bytes(), binding.as_bytes()],
             )
         }
     }
@@ -284,12 +276,7 @@ fn conformances_line(
     )
 }
 
-fn key_line(
-    alloc: Global,
-    code: &[u8],
-    name: &[u8],
-    key: &Name,
-) -> Result<Vec<u8>, AllocError>
+fn key_line(alloc: Global, code: &[u8], name: &[u8], key: &Name) -> Result<Vec<u8>, AllocError>
     ensures { IfOk result (λ l. l.items ≡ spec.line (codes "link") (code.now ∷ name.now ∷ key.now ∷ [])) }
 {
     line(alloc, b"link", &[code, name, key.as_bytes()])
@@ -317,11 +304,7 @@ fn link_line(alloc: Global, cause: &LinkCause) -> Result<Vec<u8>, AllocError>
     match cause {
         LinkCause::ModuleCount { count } => {
             let count = number(alloc, *count)?;
-            line(
-                alloc,
-                b"link",
-                &[b"217", b"ModuleCount", count.as_bytes()],
-            )
+            line(alloc, b"link", &[b"217", b"ModuleCount", count.as_bytes()])
         }
         LinkCause::ModuleTwice { module } => key_line(alloc, b"201", b"ModuleTwice", module),
         LinkCause::ModuleMissing { holder, missing } => {
@@ -336,11 +319,7 @@ fn link_line(alloc: Global, cause: &LinkCause) -> Result<Vec<u8>, AllocError>
         } => conformances_line(alloc, subject, interface, first, second),
         LinkCause::NoEntry { entry } => {
             let entry = dotted(alloc, entry)?;
-            line(
-                alloc,
-                b"link",
-                &[b"209", b"NoEntry", entry.as_slice()],
-            )
+            line(alloc, b"link", &[b"209", b"NoEntry", entry.as_slice()])
         }
         LinkCause::TooMany { counted, count } => {
             counted_line(alloc, b"210", b"TooMany", *counted, *count)

@@ -1,5 +1,7 @@
 // What the program answers.
 
+ghost use Rattle.std.specs.Prelude.{◌≡◌};
+
 use slang_tree::{FormCode, LinkCause, ModuleCode, Name, Place, RunCause};
 use spirv_words::ImageCode;
 
@@ -26,11 +28,18 @@ pub enum Outcome {
     /// 6: memory was wanting.
     Memory,
     /// 7: an invocation did something undefined, at a step counted from 1.
-    Undefined { invocation: u32, step: u64 },
+    Undefined {
+        invocation: u32,
+        step: u64,
+    },
     /// 8: an invocation did not end within its steps.
-    Budget { invocation: u32 },
+    Budget {
+        invocation: u32,
+    },
     /// 9: a file is not there.
-    Absent { name: Name },
+    Absent {
+        name: Name,
+    },
     /// 10: a stored module was refused, at a byte, or for 306 at a node of its core.
     FormRefused {
         name: Name,
@@ -38,7 +47,35 @@ pub enum Outcome {
         code: FormCode,
     },
     /// 11: an image was refused, at a word.
-    ImageRefused { place: u64, code: ImageCode },
+    ImageRefused {
+        place: u64,
+        code: ImageCode,
+    },
     /// 12: the image is not run over these buffers.
     InputRefused(RunCause),
+}
+
+impl Outcome {
+    ghost use Rattle.slang_cli.specs.Statuses.{status_of};
+
+    /// The exit status of the program.
+    pub fn status(&self) -> u8
+        ensures { result ≡ status_of self.now }
+    {
+        match self {
+            Outcome::Done => 0,
+            Outcome::ModuleRefused { .. } => 1,
+            Outcome::LinkRefused(_) => 2,
+            Outcome::Words => 3,
+            Outcome::ReadFault => 4,
+            Outcome::WriteFault => 5,
+            Outcome::Memory => 6,
+            Outcome::Undefined { .. } => 7,
+            Outcome::Budget { .. } => 8,
+            Outcome::Absent { .. } => 9,
+            Outcome::FormRefused { .. } => 10,
+            Outcome::ImageRefused { .. } => 11,
+            Outcome::InputRefused(_) => 12,
+        }
+    }
 }

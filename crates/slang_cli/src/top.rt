@@ -35,8 +35,8 @@ pub fn slangc<F: Files, S: Sink>(
     ensures answer { (m : Contents) → F.told files.old ≡ Some m
         → (command : Request) → command_of (map string_bytes words.now) ≡ Some command
         → WhereSettled result (Answered command m result (F.told files.new)
-            (record { bytes = S.taken out.old; faults = S.faults out.old })
-            (record { bytes = S.taken out.new; faults = S.faults out.new })) }
+        (record { bytes = S.taken out.old; faults = S.faults out.old })
+        (record { bytes = S.taken out.new; faults = S.faults out.new })) }
 
     // The words that are put do what the text means: for all built-in values, lengths, answers to reads and bounds.
     ensures means { (m : Contents) → F.told files.old ≡ Some m
@@ -59,7 +59,7 @@ pub fn slangc<F: Files, S: Sink>(
         → WhereRefused result (S.taken out.new ≡ Some (b ++ refusal_line result)) }
     ensures line_in_part { (m : Contents) → F.told files.old ≡ Some m → (b : List ℕ) → S.taken out.old ≡ Some b
         → result ≡ WriteFault → (line p : List ℕ) × IsLine (command_of (map string_bytes words.now)) m line × IsPrefixOf p line
-            × (S.taken out.new ≡ Some (b ++ p)) }
+        × (S.taken out.new ≡ Some (b ++ p)) }
 
     // No count falls.
     ensures no_read_fault_lost { F.read_faults files.old ≤ F.read_faults files.new }

@@ -8,4 +8,4 @@ pub returns-in-Ok-read-clause-found : goal.returns-in-Ok-read-clause-found
 returns-in-Ok-read-clause-found g c = λ m told.
     let found = c.in-Ok-read.found in
     subst (λ (name : List ℕ). IsFound text_limit (m name) found) c.in-Ok.ensures
-      (found_by text_limit (m c.in-Ok.name) found c.read.result c.in-Ok-read.is (c.read.ensures.bytes m told) (c.read.ensures.absent m told) (c.read.ensures.too_long m told))
+    (found_by text_limit (m c.in-Ok.name) found c.read.result c.in-Ok-read.is (c.read.ensures.bytes m told) (c.read.ensures.absent m told) (c.read.ensures.too_long m told))

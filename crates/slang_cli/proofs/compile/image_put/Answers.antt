@@ -11,6 +11,6 @@ pub returns-clause-puts : goal.returns-clause-puts
 returns-clause-puts c =
     let image = c.args.image.now in
     if_ok_to _ _ c.words_put.result c.words_put.ensures.puts (λ a e.
-        e
-        ∙ ap (λ (words : List ℕ). Puts image (bytes_of_words words) (line image (decimal (length words) ∷ []))) (c.as_slice.ensures.value ∙ c.in_ok-words.ensures)
-        ∙ ap (λ (home : List ℕ). puts_image image home c.args.shader.now) c.in_ok-name.ensures)
+    e
+    ∙ ap (λ (words : List ℕ). Puts image (bytes_of_words words) (line image (decimal (length words) ∷ []))) (c.as_slice.ensures.value ∙ c.in_ok-words.ensures)
+    ∙ ap (λ (home : List ℕ). puts_image image home c.args.shader.now) c.in_ok-name.ensures)

@@ -1,3 +1,4 @@
+use Rattle.std.proofs.Common.{map, string_bytes}
 use Rattle.slang_cli.proofs.Clauses.{only_words, always_words, read_rose, write_rose, kept, answer, put_in_part, whole_line, part_of_line}
 use Rattle.slang_cli.proofs.Named.{short_name, command_home}
 use Rattle.slang_cli.proofs.Meant.{meant}
@@ -14,9 +15,9 @@ returns-clause-answer g c = λ m told command is. answer _ _ _ _ _ m command c.c
 
 pub returns-clause-means : goal.returns-clause-means
 returns-clause-means g c = λ m told entry image home is done.
-    let name = short_name home (command_home _ entry image home is) in
+    let name = short_name home (command_home (map string_bytes c.args.words.now) entry image home is) in
     meant (record { agree = c.words_mean_source.ensures; spelled = c.image_is_spelled.ensures; here = c.an_entry_changes_one_name.ensures.here })
-      m entry image home name.0 name.1 _ _ _ _ _ c.call.ensures.runs told is done
+    m entry image home name.0 name.1 _ _ _ _ _ c.call.ensures.runs told is done
 
 pub returns-clause-read_fault : goal.returns-clause-read_fault
 returns-clause-read_fault g c = λ e. read_rose _ _ _ _ _ c.call.ensures.runs e
