@@ -49,7 +49,7 @@ OfShader entry image home shader answer =
     (IsEntry entry home shader × (answer ≡ puts_image image home shader))
     ⊎ ((IsEntry entry home shader → ⊥) × (answer ≡ Refuses (LinkRefused (NoEntry entry))))
 
--- the first bytes past a text of the greatest length
+-- how many bytes a text may have
 abbrev pub text_limit : ℕ
 text_limit = 1048576
 

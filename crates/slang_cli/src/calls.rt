@@ -1,13 +1,13 @@
 // The call that does all that the program does.
 
-ghost use Rattle.std.specs.Prelude.{◌≡◌, ◌≤◌, Some, IfOk, IfErr, IsErrOf, IsTrue, map, string_bytes};
+ghost use Rattle.std.specs.Prelude.{◌≡◌, ◌≤◌, Some, IfOk, IsErrOf, map, string_bytes};
 ghost use Rattle.slang_store.specs.Contents.{Contents};
 ghost use Rattle.slang_store.specs.Counts.{Rose};
 ghost use Rattle.slang_cli.specs.Commands.{Request, text_name, command_of};
 ghost use Rattle.slang_cli.specs.Lines as lines;
-ghost use Rattle.slang_cli.specs.Answers.{IsAnswer, outcome_of, printed, text_limit};
+ghost use Rattle.slang_cli.specs.Answers.{printed, text_limit};
 ghost use Rattle.slang_cli.specs.Found.{FoundWithin, IsFound};
-ghost use Rattle.slang_cli.specs.Outside.{FilesNow, SinkNow, Prints, IsReal, IsTheAnswer, Runs};
+ghost use Rattle.slang_cli.specs.Outside.{Prints, IsTheAnswer, Runs};
 ghost use Rattle.slang_cli.specs.Views as view;
 ghost use Rattle.slang_cli.specs.Views.{IsNamed};
 ghost use Rattle.slang_cli.specs.declared.answer.Halt.TheVariants.{Read};

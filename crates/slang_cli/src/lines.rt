@@ -1,6 +1,6 @@
 // The line that is printed at the end of a call.
 
-ghost use Rattle.std.specs.Prelude.{◌≡◌, ◌++◌, ◌∷◌, [], IfOk, OnOk, map, take, string_bytes, codes};
+ghost use Rattle.std.specs.Prelude.{◌≡◌, ◌∷◌, [], IfOk, map, string_bytes, codes};
 ghost use Rattle.std.specs.Fmt.{decimal};
 ghost use Rattle.slang_tree.specs.declared.faults.LinkCause.TheVariants as link;
 ghost use Rattle.slang_cli.specs.declared.outcome.Outcome.TheVariants.{ModuleRefused, LinkRefused, FormRefused, ImageRefused, InputRefused};

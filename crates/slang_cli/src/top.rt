@@ -6,7 +6,6 @@ ghost use Rattle.slang_store.specs.Contents.{Contents, IsPrefixOf};
 ghost use Rattle.slang_store.specs.Counts.{Rose};
 ghost use Rattle.slang_cli.specs.Commands.{Request, Compile, command_of};
 ghost use Rattle.slang_cli.specs.Lines.{refusal_line};
-ghost use Rattle.slang_cli.specs.Outside.{SinkNow};
 ghost use Rattle.slang_cli.specs.Calls.{WhereSettled, WhereRefused, Answered, MayHold, IsLine, Means};
 ghost use Rattle.slang_cli.specs.declared.outcome.Outcome.TheVariants.{Done, Words, ReadFault, WriteFault};
 
