@@ -1,10 +1,10 @@
 -- The next token, with and without its bytes.
-use Rattle.std.proofs.Common.{◌≡◌, ℕ, zero, suc, List, [], ◌∷◌, drop, map, Option, Some, None, refl, sym, ◌∙◌, ap, subst}
+use Rattle.std.proofs.Common.{◌≡◌, ℕ, zero, suc, List, [], ◌∷◌, drop, Option, Some, None, refl, sym, ◌∙◌, ap, subst}
 use Rattle.std.specs.Prelude.{IfSome}
 use Rattle.std.specs.Option.{option_map}
 use Rattle.slang_tokens.specs.declared.tokens.Token.{Token}
 use Rattle.slang_reading.specs.Lexed.{Lexed, lexed, lexed_all, token_of, bytes_at}
-use Rattle.slang_reading.specs.Reading.{first}
+use Rattle.slang_reading.specs.Reading.{first, place_of}
 use Rattle.slang_reading.specs.Cursor.{Cursor}
 
 first_lexed : (text : List ℕ) (ts : List Token) (i : ℕ) → first (drop i (lexed_all text ts)) ≡ option_map (lexed text) (first (drop i ts))
@@ -29,7 +29,7 @@ pub bytes_seen : (text : List ℕ) (ts : List Token) (i : ℕ) (t : Token) (byte
     lexed_all text ts ≡ shown.tokens → i ≡ shown.at → IfSome (first (drop shown.at shown.tokens)) (λ l. bytes ≡ l.bytes)
 bytes_seen text ts i t bytes shown e b d k =
     let there : Some (lexed text t) ≡ first (drop shown.at shown.tokens) =
-        ap (option_map (lexed text)) e ∙ (sym (first_lexed text ts i) ∙ (ap (λ us. first (drop i us)) d ∙ ap (λ n. first (drop n shown.tokens)) k)) in
+    ap (option_map (lexed text)) e ∙ (sym (first_lexed text ts i) ∙ (ap (λ us. first (drop i us)) d ∙ ap (λ n. first (drop n shown.tokens)) k)) in
     subst (λ (o : Option Lexed). IfSome o (λ l. bytes ≡ l.bytes)) there b
 
 -- behind the last token there are none
@@ -37,5 +37,11 @@ pub none_seen : (text : List ℕ) (ts : List Token) (i : ℕ) (bytes : List ℕ)
     lexed_all text ts ≡ shown.tokens → i ≡ shown.at → IfSome (first (drop shown.at shown.tokens)) (λ l. bytes ≡ l.bytes)
 none_seen text ts i bytes shown e d k =
     let there : None ≡ first (drop shown.at shown.tokens) =
-        ap (option_map (lexed text)) e ∙ (sym (first_lexed text ts i) ∙ (ap (λ us. first (drop i us)) d ∙ ap (λ n. first (drop n shown.tokens)) k)) in
+    ap (option_map (lexed text)) e ∙ (sym (first_lexed text ts i) ∙ (ap (λ us. first (drop i us)) d ∙ ap (λ n. first (drop n shown.tokens)) k)) in
     subst (λ (o : Option Lexed). IfSome o (λ l. bytes ≡ l.bytes)) there tt
+
+-- the place of the next token
+pub place_seen : (text : List ℕ) (ts : List Token) (i : ℕ) (shown : Cursor) → lexed_all text ts ≡ shown.tokens → i ≡ shown.at →
+    place_of (option_map (lexed text) (first (drop i ts))) ≡ place_of (first (drop shown.at shown.tokens))
+place_seen text ts i shown d k =
+    ap place_of (sym (first_lexed text ts i) ∙ (ap (λ us. first (drop i us)) d ∙ ap (λ n. first (drop n shown.tokens)) k))

@@ -1,2 +1,6 @@
 pub mod Lexing
 pub mod Tame
+pub mod Viable
+pub mod Exact
+pub mod Loops
+pub mod Wrong

@@ -5,7 +5,7 @@ use Rattle.slang_tree.specs.declared.places.Place.{Place}
 use Rattle.slang_tree.specs.declared.codes.ModuleCode.{ModuleCode}
 use Rattle.slang_tree.specs.declared.codes.ModuleCode.TheVariants as code
 use Rattle.slang_reading.specs.Lexed.{Lexed}
-use Rattle.slang_reading.specs.Reading.{Outcome, Done, Stop, Past, Parser, and_then, bind, ◌>>=◌, pure, refuse, past, first, Choice, Leave, Take, Refuse, Pass, chosen, next, unless_past, if_fits, tried, attempt, turn, turns}
+use Rattle.slang_reading.specs.Reading.{Outcome, Done, Stop, Past, Parser, and_then, bind, ◌>>=◌, pure, refuse, past, first, Choice, Leave, Take, Refuse, Pass, place_of, chosen, next, if_fits, tried, attempt, turn, turns}
 
 -- the tokens agree on the first k; the end counts as a token
 pub record Same (k : ℕ) (ts us : List Lexed) : Type 0 where
@@ -106,7 +106,7 @@ abbrev pub Each : {A : Type 0} → (Parser A → Type 0) → Choice A → Type 0
 Each P (Leave p) = P p
 Each P (Take p) = P p
 Each P Refuse = Unit {0}
-Each P (Pass code) = Unit {0}
+Each P (Pass code place) = Unit {0}
 
 no_first : {X : Type 0} (x : X) → first [] ≡ Some x → ⊥
 no_first x e = cc
@@ -123,8 +123,7 @@ chosen_rises x (Leave p) h ts at seen = rises_from at seen at (max seen (at + 1)
 chosen_rises (Some t) (Take p) h ts at seen = rises_from at seen (at + 1) (max seen (at + 1)) (p ts (at + 1) (max seen (at + 1))) (omega arith) (omega arith) (h.rises ts (at + 1) (max seen (at + 1)))
 chosen_rises None (Take p) h ts at seen = omega arith
 chosen_rises x Refuse h ts at seen = omega arith
-chosen_rises (Some t) (Pass code) h ts at seen = omega arith
-chosen_rises None (Pass code) h ts at seen = omega arith
+chosen_rises x (Pass code place) h ts at seen = omega arith
 
 chosen_bounded : {A : Type 0} (x : Option Lexed) (c : Choice A) → Each Tame c → (ts : List Lexed) (at seen : ℕ) → first (drop at ts) ≡ x →
     at ≤ length ts → seen ≤ length ts + 1 → Bounded (length ts) (chosen x c ts at (max seen (at + 1)))
@@ -132,16 +131,14 @@ chosen_bounded x (Leave p) h ts at seen e a s = h.bounded ts at (max seen (at + 
 chosen_bounded (Some t) (Take p) h ts at seen e a s = let lt = within at ts t e in h.bounded ts (at + 1) (max seen (at + 1)) (omega arith) (omega arith)
 chosen_bounded None (Take p) h ts at seen e a s = omega arith
 chosen_bounded x Refuse h ts at seen e a s = omega arith
-chosen_bounded (Some t) (Pass code) h ts at seen e a s = omega arith
-chosen_bounded None (Pass code) h ts at seen e a s = omega arith
+chosen_bounded x (Pass code place) h ts at seen e a s = omega arith
 
 pub chosen_seen : {A : Type 0} (x : Option Lexed) (c : Choice A) → Each Tame c → (ts : List Lexed) (at seen : ℕ) → at < seen_of (chosen x c ts at (max seen (at + 1)))
 chosen_seen x (Leave p) h ts at seen = let k = seen_rises at (max seen (at + 1)) (p ts at (max seen (at + 1))) (h.rises ts at (max seen (at + 1))) in omega arith
 chosen_seen (Some t) (Take p) h ts at seen = let k = seen_rises (at + 1) (max seen (at + 1)) (p ts (at + 1) (max seen (at + 1))) (h.rises ts (at + 1) (max seen (at + 1))) in omega arith
 chosen_seen None (Take p) h ts at seen = omega arith
 chosen_seen x Refuse h ts at seen = omega arith
-chosen_seen (Some t) (Pass code) h ts at seen = omega arith
-chosen_seen None (Pass code) h ts at seen = omega arith
+chosen_seen x (Pass code place) h ts at seen = omega arith
 
 chosen_local : {A : Type 0} (x : Option Lexed) (c : Choice A) → Each Tame c → (ts us : List Lexed) (at seen : ℕ) →
     Same (seen_of (chosen x c ts at (max seen (at + 1)))) ts us → chosen x c us at (max seen (at + 1)) ≡ chosen x c ts at (max seen (at + 1))
@@ -149,8 +146,7 @@ chosen_local x (Leave p) h ts us at seen s = h.local ts us at (max seen (at + 1)
 chosen_local (Some t) (Take p) h ts us at seen s = h.local ts us (at + 1) (max seen (at + 1)) s
 chosen_local None (Take p) h ts us at seen s = refl
 chosen_local x Refuse h ts us at seen s = refl
-chosen_local (Some t) (Pass code) h ts us at seen s = refl
-chosen_local None (Pass code) h ts us at seen s = refl
+chosen_local x (Pass code place) h ts us at seen s = refl
 
 pub tame_next : {A : Type 0} (f : Option Lexed → Choice A) → ((x : Option Lexed) → Each Tame (f x)) → Tame (next f)
 unfolding next
@@ -163,12 +159,12 @@ tame_next f h = record {
 }
 
 -- a limit at the token makes no choice wild
-pub each_fits : {A : Type 0} (P : Parser A → Type 0) (b : Bool) (k : ModuleCode) (c : Choice A) → Each P c → Each P (if_fits b k c)
-each_fits P true k c h = h
-each_fits P false k (Leave p) h = tt
-each_fits P false k (Take p) h = tt
-each_fits P false k Refuse h = tt
-each_fits P false k (Pass other) h = tt
+pub each_fits : {A : Type 0} (P : Parser A → Type 0) (b : Bool) (k : ModuleCode) (x : Option Lexed) (c : Choice A) → Each P c → Each P (if_fits b k x c)
+each_fits P true k x c h = h
+each_fits P false k x (Leave p) h = tt
+each_fits P false k x (Take p) h = tt
+each_fits P false k x Refuse h = tt
+each_fits P false k x (Pass other there) h = tt
 
 -- ---- a part that is tried
 
@@ -211,6 +207,6 @@ tame_turn false again a h = tame_pure a
 
 pub tame_turns : {A : Type 0} (goes : Option Lexed → Bool) (more : A → Parser A) → ((a : A) → Tame (more a)) → (n : ℕ) (a : A) → Tame (turns goes more n a)
 unfolding turns
-tame_turns goes more h zero a = tame_next (λ x. turn (goes x) (Pass code.TooLong) a) (λ x. tame_turn (goes x) (Pass code.TooLong) a tt)
+tame_turns goes more h zero a = tame_next (λ x. turn (goes x) (Pass code.TooLong (place_of x)) a) (λ x. tame_turn (goes x) (Pass code.TooLong (place_of x)) a tt)
 tame_turns goes more h (suc n) a = tame_next (λ x. turn (goes x) (Leave (more a >>= turns goes more n)) a)
     (λ x. tame_turn (goes x) (Leave (more a >>= turns goes more n)) a (tame_bind (turns goes more n) (tame_turns goes more h n) (more a) (h a)))

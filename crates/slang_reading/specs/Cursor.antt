@@ -1,7 +1,5 @@
 -- What the code of the descent answers.
-use Rattle.std.specs.Prelude.{◌≡◌, ℕ, ◌+◌, ◌≤◌, max, List, drop, length, Option, Result, Ok, Err}
-use Rattle.slang_tree.specs.declared.places.Place.{Place}
-use Rattle.slang_tree.specs.declared.codes.ModuleCode.{ModuleCode}
+use Rattle.std.specs.Prelude.{◌≡◌, ℕ, ◌+◌, max, List, Result, Ok, Err}
 use Rattle.slang_reading.specs.declared.faults.Fault.{Fault}
 use Rattle.slang_reading.specs.declared.faults.Fault.TheVariants as f
 use Rattle.slang_reading.specs.Lexed.{Lexed}

@@ -1,5 +1,5 @@
 -- What a `Tokens` shows.
-use Rattle.std.specs.Prelude.{ℕ, ◌≤◌, length}
+use Rattle.std.specs.Prelude.{◌≤◌, length}
 use Rattle.slang_reading.specs.declared.cursor.Tokens.TheInside.{Inside}
 use Rattle.slang_reading.specs.Lexed.{lexed_all}
 use Rattle.slang_reading.specs.Cursor.{Cursor}

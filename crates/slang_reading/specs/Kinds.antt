@@ -1,5 +1,5 @@
 -- What a token is, as tests.
-use Rattle.std.specs.Prelude.{ℕ, Bool, true, false, ◌==◌, Option, Some, None}
+use Rattle.std.specs.Prelude.{ℕ, Bool, false, ◌==◌, Option, Some, None}
 use Rattle.slang_tree.specs.declared.places.Place.{Place}
 use Rattle.slang_tokens.specs.declared.tokens.Kind.{Kind}
 use Rattle.slang_tokens.specs.declared.tokens.Kind.TheVariants as k

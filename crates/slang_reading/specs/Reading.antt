@@ -56,31 +56,36 @@ pub data Choice (A : Type 0) : Type 0 where
   Take : Parser A → Choice A
   -- no file goes on with it
   Refuse : Choice A
-  -- what begins here passes a limit
-  Pass : ModuleCode → Choice A
+  -- what begins here passes a limit, or breaks a rule beside the grammar
+  Pass : ModuleCode → Place → Choice A
 
 abbrev pub chosen : {A : Type 0} → Option Lexed → Choice A → Parser A
 chosen x (Leave p) = p
 chosen (Some t) (Take p) = λ ts at seen. p ts (at + 1) seen
 chosen None (Take p) = refuse
 chosen x Refuse = refuse
-chosen (Some t) (Pass code) = past code t.place
-chosen None (Pass code) = refuse
+chosen x (Pass code place) = past code place
 
 -- looks at the next token and chooses
 unfoldable pub next : {A : Type 0} → (Option Lexed → Choice A) → Parser A
 next f = λ ts at seen. chosen (first (drop at ts)) (f (first (drop at ts))) ts at (max seen (at + 1))
 
--- the choice, if that fits; else what would be taken or left passes the limit of that code, and what is refused stays so
-abbrev pub unless_past : {A : Type 0} → ModuleCode → Choice A → Choice A
-unless_past code (Leave p) = Pass code
-unless_past code (Take p) = Pass code
-unless_past code Refuse = Refuse
-unless_past code (Pass other) = Pass other
+-- where the next token lies
+abbrev pub place_of : Option Lexed → Place
+place_of (Some t) = t.place
+place_of None = record { start = 0; end = 0 }
 
-abbrev pub if_fits : {A : Type 0} → Bool → ModuleCode → Choice A → Choice A
-if_fits true code c = c
-if_fits false code c = unless_past code c
+-- what is refused stays so, and what would go on passes the limit of that code
+abbrev pub unless_past : {A : Type 0} → ModuleCode → Place → Choice A → Choice A
+unless_past code place (Leave p) = Pass code place
+unless_past code place (Take p) = Pass code place
+unless_past code place Refuse = Refuse
+unless_past code place (Pass other there) = Pass other there
+
+-- the choice at that token, if what begins with it fits
+abbrev pub if_fits : {A : Type 0} → Bool → ModuleCode → Option Lexed → Choice A → Choice A
+if_fits true code x c = c
+if_fits false code x c = unless_past code (place_of x) c
 
 -- Goes on with what q reads, or, where q stops, from where q began.
 abbrev pub tried : {A B : Type 0} → Outcome B → (Option B → Parser A) → List Lexed → ℕ → Outcome A
@@ -97,5 +102,5 @@ turn true again a = again
 turn false again a = Leave (pure a)
 
 unfoldable pub turns : {A : Type 0} → (Option Lexed → Bool) → (A → Parser A) → ℕ → A → Parser A
-turns goes more zero a = next (λ x. turn (goes x) (Pass code.TooLong) a)
+turns goes more zero a = next (λ x. turn (goes x) (Pass code.TooLong (place_of x)) a)
 turns goes more (suc n) a = next (λ x. turn (goes x) (Leave (more a >>= turns goes more n)) a)

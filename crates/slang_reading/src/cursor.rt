@@ -3,7 +3,7 @@
 ghost use Rattle.std.specs.Prelude.{◌≡◌, ◌<◌, ◌≤◌, ◌-◌, length, drop, IfSome};
 ghost use Rattle.std.specs.Option.{option_map};
 ghost use Rattle.slang_reading.specs.Lexed.{lexed_all, token_of, bytes_at};
-ghost use Rattle.slang_reading.specs.Reading.{first};
+ghost use Rattle.slang_reading.specs.Reading.{first, place_of};
 ghost use Rattle.slang_reading.specs.Kinds.{sees, sees_word};
 ghost use Rattle.slang_reading.specs.Cursor.{Cursor, looked, taken, moved};
 
@@ -80,6 +80,16 @@ impl<'a> Tokens<'a> {
         match token_at(self.tokens, self.at) {
             Some(token) => cut(self.text, token.place),
             None => &self.text[..0],
+        }
+    }
+
+    /// Where the next token lies; behind the last token the empty place at the start.
+    pub fn place(&self) -> Place
+        ensures { result ≡ place_of (first (drop self.now.at self.now.tokens)) }
+    {
+        match token_at(self.tokens, self.at) {
+            Some(token) => token.place,
+            None => Place { start: 0, end: 0 },
         }
     }
 
