@@ -2,3 +2,5 @@ pub mod Tables
 pub mod Standing
 pub mod Types
 pub mod Expressions
+pub mod Descent
+pub mod TypesDescent

@@ -4,3 +4,4 @@ pub mod Viable
 pub mod Exact
 pub mod Loops
 pub mod Wrong
+pub mod Marks
