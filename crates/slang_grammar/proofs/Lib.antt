@@ -1,2 +1,4 @@
 pub mod Shared
+pub mod Heights
 pub mod TypesSpelled
+pub mod TypesRead

@@ -5,14 +5,15 @@ use Rattle.slang_tree.specs.declared.places.Place.{Place}
 use Rattle.slang_tree.specs.declared.codes.ModuleCode.TheVariants as code
 use Rattle.slang_tree.specs.declared.types.Identifier.{Identifier}
 use Rattle.slang_tree.specs.declared.types.Term.{Term}
+use Rattle.slang_tree.specs.declared.types.Term.TheVariants as term
 use Rattle.slang_tokens.specs.declared.tokens.Kind.{Kind}
 use Rattle.slang_tokens.specs.declared.tokens.Kind.TheVariants as k
 use Rattle.slang_tokens.specs.declared.tokens.Mark.{Mark}
 use Rattle.slang_reading.specs.Lexed.{Lexed}
 use Rattle.slang_reading.specs.Reading.{first, Choice, Take, Refuse, if_fits, pure, next}
-use Rattle.slang_reading.specs.Kinds.{is_mark}
-use Rattle.slang_reading.proofs.Marks.{mark_is}
-use Rattle.slang_reading.proofs.Exact.{Post, PostChoice, post_next, post_fits}
+use Rattle.slang_reading.specs.Kinds.{is_mark, sees}
+use Rattle.slang_reading.proofs.Marks.{mark_is, mark_sees}
+use Rattle.slang_reading.proofs.Exact.{Post, PostChoice, post_next, post_fits, Reads, ReadsChoice, reads_next, reads_pure, reads_fits}
 use Rattle.slang_grammar.specs.Standing.{Stands, NameStands}
 use Rattle.slang_grammar.specs.Types.{TermAt}
 use Rattle.slang_grammar.specs.Types as t
@@ -78,3 +79,41 @@ post_bracketed ts limits at seen = post_next ts (IsTermAt ts at) (termed limits)
     go : (x : Option Lexed) → first (drop at ts) ≡ x → PostChoice ts (IsTermAt ts at) at x (termed limits x)
     go (Some tok) e = by tok e tok.kind refl
     go None e = tt
+
+-- ---- what is spelled is read
+
+module _ (E : Type 0) (ts : List Lexed) where
+  pub reads_expect : (mark : Mark) (p : Place) (at seen : ℕ) → Stands ts at (k.Mark mark) p → Reads E (expect mark) ts at seen p (at + 1)
+  unfolding expect
+  reads_expect mark p at seen s = reads_next E ts (expected mark) at seen p (at + 1) (Some (record { kind = k.Mark mark; place = p; bytes = s.bytes })) (Take (pure p)) s.is
+      (ap (λ b. if b then Take (pure p) else Refuse) (mark_sees mark (record { kind = k.Mark mark; place = p; bytes = s.bytes }) refl)) (λ seen1. reads_pure E ts p (at + 1) seen1)
+
+  module _ (e : E) (limits : Limits) where
+    pub reads_short : {A : Type 0} (at : ℕ) (a : A) (to : ℕ) (t : Lexed) (c : Choice A) → ReadsChoice E ts at a to (Some t) c → ReadsChoice E ts at a to (Some t) (if_short limits t c)
+    reads_short at a to t c r = reads_fits E ts at a to (Some t) (nat_le (length t.bytes) limits.names) code.TooLong c (λ f. e) r
+
+    pub reads_name : (id : Identifier) (at seen : ℕ) → NameStands ts at id → Reads E (name limits) ts at seen id (at + 1)
+    unfolding name
+    reads_name id at seen s = let t : Lexed = record { kind = k.Name; place = id.place; bytes = id.name } in
+        reads_next E ts (named limits) at seen id (at + 1) (Some t) (if_short limits t (Take (pure (identifier t)))) s.is refl
+        (reads_short at id (at + 1) t (Take (pure (identifier t))) (λ seen1. reads_pure E ts id (at + 1) seen1))
+
+    pub reads_bracketed : (x : Term) (at seen : ℕ) → TermAt ts x at → Reads E (bracketed limits) ts at seen x (at + 1)
+    unfolding bracketed
+    reads_bracketed x at seen (t.number_term {p = p} {v = v} s) =
+        reads_next E ts (termed limits) at seen x (at + 1) (Some (record { kind = k.Number v; place = p; bytes = s.bytes })) (Take (pure (term.Number p v))) s.is refl
+        (λ seen1. reads_pure E ts (term.Number p v) (at + 1) seen1)
+    reads_bracketed x at seen (t.name_term {id = id} s) = let t : Lexed = record { kind = k.Name; place = id.place; bytes = id.name } in
+        reads_next E ts (termed limits) at seen x (at + 1) (Some t) (if_short limits t (Take (pure (term.Name id)))) s.is refl
+        (reads_short at x (at + 1) t (Take (pure (term.Name id))) (λ seen1. reads_pure E ts (term.Name id) (at + 1) seen1))
+
+-- the next token is not this mark
+pub record IsNot (ts : List Lexed) (mark : Mark) (at : ℕ) : Type 0 where
+  pub is : sees mark (first (drop at ts)) ≡ false
+
+-- another token stands there
+pub not_there : (ts : List Lexed) (mark : Mark) (at : ℕ) (kind : Kind) (p : Place) → Stands ts at kind p → is_mark mark kind ≡ false → IsNot ts mark at
+not_there ts mark at kind p s e = record { is = ap (sees mark) s.is ∙ e }
+
+pub is_there : (ts : List Lexed) (mark : Mark) (at : ℕ) (p : Place) → Stands ts at (k.Mark mark) p → sees mark (first (drop at ts)) ≡ true
+is_there ts mark at p s = ap (sees mark) s.is ∙ mark_sees mark (record { kind = k.Mark mark; place = p; bytes = s.bytes }) refl

@@ -4,3 +4,4 @@ pub mod Types
 pub mod Expressions
 pub mod Descent
 pub mod TypesDescent
+pub mod Heights
