@@ -14,7 +14,7 @@ use Rattle.slang_reading.specs.Reading.{first, Choice, Take, Refuse, if_fits, pu
 use Rattle.slang_reading.specs.Kinds.{is_mark, sees}
 use Rattle.slang_reading.proofs.Marks.{mark_is, mark_sees}
 use Rattle.slang_reading.proofs.Exact.{Post, PostChoice, post_next, post_fits, Reads, ReadsChoice, reads_next, reads_pure, reads_fits}
-use Rattle.slang_grammar.specs.Standing.{Stands, NameStands}
+use Rattle.slang_grammar.specs.Standing.{Stands, NameStands, IsNot}
 use Rattle.slang_grammar.specs.Types.{TermAt}
 use Rattle.slang_grammar.specs.Types as t
 use Rattle.slang_grammar.specs.Descent.{Limits, expected, expect, identifier, if_short, named_by, named, name, termed_by, termed, bracketed}
@@ -106,10 +106,6 @@ module _ (E : Type 0) (ts : List Lexed) where
     reads_bracketed x at seen (t.name_term {id = id} s) = let t : Lexed = record { kind = k.Name; place = id.place; bytes = id.name } in
         reads_next E ts (termed limits) at seen x (at + 1) (Some t) (if_short limits t (Take (pure (term.Name id)))) s.is refl
         (reads_short at x (at + 1) t (Take (pure (term.Name id))) (λ seen1. reads_pure E ts (term.Name id) (at + 1) seen1))
-
--- the next token is not this mark
-pub record IsNot (ts : List Lexed) (mark : Mark) (at : ℕ) : Type 0 where
-  pub is : sees mark (first (drop at ts)) ≡ false
 
 -- another token stands there
 pub not_there : (ts : List Lexed) (mark : Mark) (at : ℕ) (kind : Kind) (p : Place) → Stands ts at kind p → is_mark mark kind ≡ false → IsNot ts mark at

@@ -18,18 +18,18 @@ use Rattle.slang_tokens.specs.declared.tokens.Mark.TheVariants as m
 use Rattle.slang_tokens.specs.declared.tokens.Word.{Word}
 use Rattle.slang_tokens.specs.declared.tokens.Word.TheVariants as w
 use Rattle.slang_reading.specs.Lexed.{Lexed}
-use Rattle.slang_reading.specs.Reading.{Parser, Choice, Leave, Take, Refuse, first, if_fits, ◌>>=◌, pure, refuse, next, turns}
+use Rattle.slang_reading.specs.Reading.{Outcome, Done, Stop, Past, and_then, bind, Parser, Choice, Leave, Take, Refuse, first, if_fits, ◌>>=◌, pure, next, turns}
 use Rattle.slang_reading.specs.Kinds.{sees, span}
-use Rattle.slang_reading.proofs.Exact.{Reads, ReadsChoice, reads_pure, reads_bind, reads_next, reads_fits, reads_turns_end, reads_turns_more, reads_turns_full}
+use Rattle.slang_reading.proofs.Exact.{Meets, Reads, ReadsChoice, reads_pure, reads_bind, reads_next, reads_fits, reads_turns_end, reads_turns_more, reads_turns_full}
 use Rattle.slang_grammar.specs.Tables.{builtin_of, resource_of}
-use Rattle.slang_grammar.specs.Standing.{Stands, NameStands}
+use Rattle.slang_grammar.specs.Standing.{Stands, NameStands, IsNot}
 use Rattle.slang_grammar.specs.Types as t
-use Rattle.slang_grammar.specs.Types.{typed, TypeAt, TypeNameAt, ProjectionsAt, ArgumentsAt, MoreArgumentsAt, ArgumentAt}
+use Rattle.slang_grammar.specs.Types.{typed, TypeAt, TypeNameAt, ProjectionsAt, ArgumentsAt, MoreArgumentsAt, ArgumentAt, Quiet}
 use Rattle.slang_grammar.specs.Descent.{Limits, expect, name, identifier, if_short, bracketed}
 use Rattle.slang_grammar.specs.Heights.{greatest, height, argument_height}
-use Rattle.slang_grammar.specs.TypesDescent.{Type_, Argument, Arguments, WordUse, IsBuiltin, IsResource, IsThis, IsOther, resource_use, builtin_use, use_of, type_argument, begins_type, word_argument, argument_by, argument_of, argument, argument_more, arguments, name_rest_by, name_rest, resource_rest, node, type_word, type_by, type_of, type_name, project_rest, project_by, project, length_rest, length_by, array, types}
+use Rattle.slang_grammar.specs.TypesDescent.{Type_, Argument, Arguments, WordUse, IsBuiltin, IsResource, IsThis, IsOther, resource_use, builtin_use, use_of, type_argument, begins_type, word_argument, argument_by, argument_of, argument, argument_more, arguments, name_rest_by, name_rest, resource_rest, node, type_word, type_by, type_of, type_name, project_rest, project_by, project, length_rest, length_by, array, type_rest, no_types, types}
 use Rattle.slang_grammar.proofs.Heights.{height_builtin, height_this, height_named, height_resource, height_projection, height_array, height_term, height_number, greatest_more}
-use Rattle.slang_grammar.proofs.Shared.{reads_expect, reads_short, reads_name, reads_bracketed, IsNot, not_there, is_there}
+use Rattle.slang_grammar.proofs.Shared.{reads_expect, reads_short, reads_name, reads_bracketed, not_there, is_there}
 
 -- ---- what a word begins
 
@@ -84,12 +84,6 @@ use_resource w.ParameterBlock r e = cc
 -- the answer with an equal height
 with_height : (x : TypeTree) (h : ℕ) → height x ≡ h → ◌≡◌ {A = Type_} (x, h) (x, height x)
 with_height x h e = ap (λ n. (x, n)) (sym e)
-
--- what may not follow a type: it would go on
-pub record Quiet (ts : List Lexed) (at : ℕ) : Type 0 where
-  pub less : IsNot ts m.Less at
-  pub dot : IsNot ts m.Dot at
-  pub bracket : IsNot ts m.OpenBracket at
 
 quiet_mark : (ts : List Lexed) (at : ℕ) (kind : Kind) (p : Place) → Stands ts at kind p → (sees m.Less (Some (record { kind = kind; place = p; bytes = [] })) ≡ false) →
     (sees m.Dot (Some (record { kind = kind; place = p; bytes = [] })) ≡ false) → (sees m.OpenBracket (Some (record { kind = kind; place = p; bytes = [] })) ≡ false) → Quiet ts at
@@ -152,27 +146,41 @@ module _ (E : Type 0) (e : E) (limits : Limits) where
   reads_tall ts z h at seen q = subst (λ (a : Type_). Reads {A = Type_} E (pure a) ts at seen (z, height z) at) (sym (with_height z h q)) (reads_pure E ts (z, height z) at seen)
 
   -- with no room at all
-  reads_none : {ts : List Lexed} {x : TypeTree} {from to : ℕ} → TypeNameAt ts x from to → (a : Type_) (end seen : ℕ) → Reads E (type_name limits false zero refuse) ts from seen a end
+  reads_none : {ts : List Lexed} {x : TypeTree} {from to : ℕ} → TypeNameAt ts x from to → (a : Type_) (end seen : ℕ) → Reads E (type_name limits false zero no_types) ts from seen a end
   unfolding type_name
   reads_none {ts = ts} {from = from} (t.builtin {p = p} {word = word} {b = b} s q) a end seen =
       let tok : Lexed = record { kind = k.Word word; place = p; bytes = s.bytes } in
-      reads_next E ts (type_of limits false zero refuse) from seen a end (Some tok) (type_word limits false zero refuse tok (IsBuiltin b)) s.is
-      (ap (type_word limits false zero refuse tok) (use_builtin word b q)) e
+      reads_next E ts (type_of limits false zero no_types) from seen a end (Some tok) (type_word limits false zero no_types tok (IsBuiltin b)) s.is
+      (ap (type_word limits false zero no_types tok) (use_builtin word b q)) e
   reads_none {ts = ts} {from = from} (t.this_type {p = p} s) a end seen =
       let tok : Lexed = record { kind = k.Word w.ThisType; place = p; bytes = s.bytes } in
-      reads_next E ts (type_of limits false zero refuse) from seen a end (Some tok) (type_word limits false zero refuse tok IsThis) s.is refl e
+      reads_next E ts (type_of limits false zero no_types) from seen a end (Some tok) (type_word limits false zero no_types tok IsThis) s.is refl e
   reads_none {ts = ts} {from = from} (t.name {id = id} i) a end seen =
       let tok : Lexed = record { kind = k.Name; place = id.place; bytes = id.name } in
-      reads_next E ts (type_of limits false zero refuse) from seen a end (Some tok) (type_by limits false zero refuse tok k.Name) i.is refl
-      (reads_short E ts e limits from a end tok (node limits false zero refuse tok (Take (name_rest limits false zero refuse (identifier tok)))) e)
+      reads_next E ts (type_of limits false zero no_types) from seen a end (Some tok) (type_by limits false zero no_types tok k.Name) i.is refl
+      (reads_short E ts e limits from a end tok (node limits false zero no_types tok (Take (name_rest limits false zero no_types (identifier tok)))) e)
   reads_none {ts = ts} {from = from} (t.generic {id = id} i g) a end seen =
       let tok : Lexed = record { kind = k.Name; place = id.place; bytes = id.name } in
-      reads_next E ts (type_of limits false zero refuse) from seen a end (Some tok) (type_by limits false zero refuse tok k.Name) i.is refl
-      (reads_short E ts e limits from a end tok (node limits false zero refuse tok (Take (name_rest limits false zero refuse (identifier tok)))) e)
+      reads_next E ts (type_of limits false zero no_types) from seen a end (Some tok) (type_by limits false zero no_types tok k.Name) i.is refl
+      (reads_short E ts e limits from a end tok (node limits false zero no_types tok (Take (name_rest limits false zero no_types (identifier tok)))) e)
   reads_none {ts = ts} {from = from} (t.resource {p = p} {word = word} {r = r} s q o u v) a end seen =
       let tok : Lexed = record { kind = k.Word word; place = p; bytes = s.bytes } in
-      reads_next E ts (type_of limits false zero refuse) from seen a end (Some tok) (type_word limits false zero refuse tok (IsResource r)) s.is
-      (ap (type_word limits false zero refuse tok) (use_resource word r q)) e
+      reads_next E ts (type_of limits false zero no_types) from seen a end (Some tok) (type_word limits false zero no_types tok (IsResource r)) s.is
+      (ap (type_word limits false zero no_types tok) (use_resource word r q)) e
+
+  -- what may be anything is past a limit, and nothing follows it
+  reads_past : (p : Parser Type_) (g : Type_ → Parser Type_) (ts : List Lexed) (at seen : ℕ) (b : Type_) (to : ℕ) → ((a : Type_) (end : ℕ) → Reads E p ts at seen a end) → Reads E (p >>= g) ts at seen b to
+  unfolding bind
+  reads_past p g ts at seen b to r = record { is = go (p ts at seen) (λ a end. (r a end).is) }
+    where
+      go : (o : Outcome Type_) → ((a : Type_) (end : ℕ) → Meets E a end o) → Meets E b to (and_then o (λ a at1 seen1. g a ts at1 seen1))
+      go (Done c at1 seen1) m = let u = (m c 0).1 in let v = (m c 1).1 in absurd (omega arith)
+      go (Stop seen1) m = absurd (m b to)
+      go (Past code place seen1) m = m b to
+
+  passes : (ts : List Lexed) (x : TypeTree) (from to : ℕ) {z : TypeTree} {mid : ℕ} → TypeNameAt ts z from mid → (seen : ℕ) →
+      Reads {A = Type_} E (type_name limits false zero no_types >>= type_rest limits zero) ts from seen (x, height x) to
+  passes ts x from to s seen = reads_past (type_name limits false zero no_types) (type_rest limits zero) ts from seen (x, height x) to (λ a end. reads_none s a end seen)
 
   -- the token that begins a type begins an argument
   record Begins (ts : List Lexed) (from : ℕ) (room : Bool) (d : ℕ) (inner : Parser Type_) : Type 0 where
@@ -203,10 +211,10 @@ module _ (E : Type 0) (e : E) (limits : Limits) where
   tallest_one x = omega arith
 
   mutual
-    unfolding types type_name name_rest resource_rest arguments argument_more argument type_argument
+    unfolding types type_rest type_name name_rest resource_rest arguments argument_more argument type_argument
     pub reads_type : {ts : List Lexed} {x : TypeTree} {from to : ℕ} → TypeAt ts x from to → Quiet ts to → (d seen : ℕ) → Reads E (types limits d) ts from seen (x, height x) to
-    reads_type {x = x} {to = to} (t.plain s r) q zero seen = reads_none s (x, height x) to seen
-    reads_type {x = x} {to = to} (t.array s r o l c) q zero seen = reads_none s (x, height x) to seen
+    reads_type {ts = ts} {x = x} {from = from} {to = to} (t.plain s r) q zero seen = passes ts x from to s seen
+    reads_type {ts = ts} {x = x} {from = from} {to = to} (t.array s r o l c) q zero seen = passes ts x from to s seen
     reads_type {ts = ts} {from = from} {to = to} (t.plain {mid = mid} {x = x} {y = y} s r) q (suc d) seen =
         reads_bind E ts (type_name limits true d (types limits d)) _ from seen mid to (x, height x) (y, height y) (reads_type_name s (projections_less r q.less) d seen)
         (λ seen1. reads_bind E ts (turns (sees m.Dot) (project limits (suc d)) limits.turns (x, height x)) (array limits (suc d)) mid seen1 to to (y, height y) (y, height y)

@@ -16,16 +16,16 @@ use Rattle.slang_tokens.specs.declared.tokens.Mark.TheVariants as m
 use Rattle.slang_tokens.specs.declared.tokens.Word.{Word}
 use Rattle.slang_tokens.specs.declared.tokens.Word.TheVariants as w
 use Rattle.slang_reading.specs.Lexed.{Lexed}
-use Rattle.slang_reading.specs.Reading.{Parser, Choice, Leave, Take, Refuse, first, if_fits, ◌>>=◌, pure, refuse, next, turns}
+use Rattle.slang_reading.specs.Reading.{Parser, Choice, Leave, Take, Refuse, first, if_fits, ◌>>=◌, pure, next, turns}
 use Rattle.slang_reading.specs.Kinds.{sees, span}
 use Rattle.slang_reading.proofs.Marks.{sees_some}
-use Rattle.slang_reading.proofs.Exact.{Post, PostChoice, post_bind, post_next, post_fits, post_turns, post_weaken}
+use Rattle.slang_reading.proofs.Exact.{Post, PostChoice, post_bind, post_next, post_fits, post_turns}
 use Rattle.slang_grammar.specs.Tables.{builtin_of, resource_of}
 use Rattle.slang_grammar.specs.Standing.{Stands, NameStands}
 use Rattle.slang_grammar.specs.Types as t
 use Rattle.slang_grammar.specs.Types.{typed, TypeAt, TypeNameAt, ProjectionsAt, ArgumentsAt, MoreArgumentsAt, ArgumentAt}
 use Rattle.slang_grammar.specs.Descent.{Limits, expect, name, identifier, if_short, bracketed}
-use Rattle.slang_grammar.specs.TypesDescent.{Type_, Argument, Arguments, WordUse, IsBuiltin, IsResource, IsThis, IsOther, other_use, resource_use, builtin_use, use_of, type_argument, begins_type, word_argument, argument_by, argument_of, argument, argument_more, arguments, name_rest_by, name_rest, resource_rest, node, type_word, type_by, type_of, type_name, project_rest, project_by, project, length_rest, length_by, array, types}
+use Rattle.slang_grammar.specs.TypesDescent.{Type_, Argument, Arguments, WordUse, IsBuiltin, IsResource, IsThis, IsOther, other_use, resource_use, builtin_use, use_of, type_argument, begins_type, word_argument, argument_by, argument_of, argument, argument_more, arguments, name_rest_by, name_rest, resource_rest, node, type_word, type_by, type_of, type_name, project_rest, project_by, project, length_rest, length_by, array, type_rest, no_types, types}
 use Rattle.slang_grammar.proofs.Shared.{stands, name_stands, IsMarkAt, post_expect, IsNameAt, post_name, IsTermAt, post_bracketed}
 
 -- ---- what a word begins
@@ -239,15 +239,19 @@ module _ (ts : List Lexed) (limits : Limits) (d : ℕ) where
       go : (o : Option Lexed) → first (drop at ts) ≡ o → PostChoice ts (λ y to. TypeAt ts y.0 from to) at o (length_by limits d x o (sees m.OpenBracket o))
       go o e = by o e (sees m.OpenBracket o) refl
 
+-- behind the name of a type
+post_type_rest : (ts : List Lexed) (limits : Limits) (d from mid : ℕ) (b : Type_) (seen : ℕ) → TypeNameAt ts b.0 from mid → Post (λ x to. TypeAt ts x.0 from to) (type_rest limits d b ts mid seen)
+unfolding type_rest
+post_type_rest ts limits d from mid b seen s =
+    post_bind ts (λ y to. ProjectionsAt ts b.0 y.0 mid to) (λ x to. TypeAt ts x.0 from to) (turns (sees m.Dot) (project limits d) limits.turns b) (array limits d) mid seen
+    (post_projections ts limits d b mid seen) (λ x to seen1 r. post_array ts limits d from mid b x to seen1 s r)
+
 -- what is read of a type is spelled
 pub post_types : (ts : List Lexed) (limits : Limits) (d at seen : ℕ) → Post (λ x to. TypeAt ts x.0 at to) (types limits d ts at seen)
 unfolding types
 post_types ts limits zero at seen =
-    post_weaken (λ x to. TypeNameAt ts x.0 at to) (λ x to. TypeAt ts x.0 at to) (λ x to s. t.plain s t.whole) (type_name limits false zero refuse ts at seen)
-    (post_type_name ts limits false zero refuse (λ at seen. tt) at seen)
+    post_bind ts (λ x to. TypeNameAt ts x.0 at to) (λ x to. TypeAt ts x.0 at to) (type_name limits false zero no_types) (type_rest limits zero) at seen
+    (post_type_name ts limits false zero no_types (λ at seen. tt) at seen) (λ b mid seen1 s. post_type_rest ts limits zero at mid b seen1 s)
 post_types ts limits (suc d) at seen =
-    post_bind ts (λ x to. TypeNameAt ts x.0 at to) (λ x to. TypeAt ts x.0 at to) (type_name limits true d (types limits d)) _ at seen
-    (post_type_name ts limits true d (types limits d) (λ at seen. post_types ts limits d at seen) at seen)
-    (λ b mid seen1 s. post_bind ts (λ y to. ProjectionsAt ts b.0 y.0 mid to) (λ x to. TypeAt ts x.0 at to) (turns (sees m.Dot) (project limits (suc d)) limits.turns b) (array limits (suc d)) mid seen1
-    (post_projections ts limits (suc d) b mid seen1)
-    (λ x to seen2 r. post_array ts limits (suc d) at mid b x to seen2 s r))
+    post_bind ts (λ x to. TypeNameAt ts x.0 at to) (λ x to. TypeAt ts x.0 at to) (type_name limits true d (types limits d)) (type_rest limits (suc d)) at seen
+    (post_type_name ts limits true d (types limits d) (λ at seen. post_types ts limits d at seen) at seen) (λ b mid seen1 s. post_type_rest ts limits (suc d) at mid b seen1 s)

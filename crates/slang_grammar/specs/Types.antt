@@ -20,7 +20,7 @@ use Rattle.slang_tokens.specs.declared.tokens.Word.TheVariants as w
 use Rattle.slang_reading.specs.Lexed.{Lexed}
 use Rattle.slang_reading.specs.Kinds.{span}
 use Rattle.slang_grammar.specs.Tables.{builtin_of, resource_of}
-use Rattle.slang_grammar.specs.Standing.{Stands, NameStands}
+use Rattle.slang_grammar.specs.Standing.{Stands, NameStands, IsNot}
 
 abbrev pub typed : Place → TypeNode → TypeTree
 typed p x = record { place = p; node = x }
@@ -68,3 +68,9 @@ mutual
   pub data ArgumentAt (ts : List Lexed) : GenericArgument → ℕ → ℕ → Type 0 where
     type_argument : {from to : ℕ} {x : TypeTree} → TypeAt ts x from to → ArgumentAt ts (g.Term x) from to
     number_argument : {at : ℕ} {p : Place} {v : Number} → Stands ts at (k.Number v) p → ArgumentAt ts (g.Number p v) at (at + 1)
+
+-- nothing stands there with which a type would go on
+pub record Quiet (ts : List Lexed) (at : ℕ) : Type 0 where
+  pub less : IsNot ts m.Less at
+  pub dot : IsNot ts m.Dot at
+  pub bracket : IsNot ts m.OpenBracket at

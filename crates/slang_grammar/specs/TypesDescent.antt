@@ -16,7 +16,7 @@ use Rattle.slang_tokens.specs.declared.tokens.Mark.TheVariants as m
 use Rattle.slang_tokens.specs.declared.tokens.Word.{Word}
 use Rattle.slang_tokens.specs.declared.tokens.Word.TheVariants as w
 use Rattle.slang_reading.specs.Lexed.{Lexed}
-use Rattle.slang_reading.specs.Reading.{Parser, Choice, Leave, Take, Refuse, if_fits, ◌>>=◌, ◌>>◌, pure, refuse, next, turns}
+use Rattle.slang_reading.specs.Reading.{Parser, Choice, Leave, Take, Refuse, if_fits, ◌>>=◌, ◌>>◌, pure, past, place_of, next, turns}
 use Rattle.slang_reading.specs.Kinds.{is_mark, sees, span}
 use Rattle.slang_grammar.specs.Tables.{builtin_of, resource_of}
 use Rattle.slang_grammar.specs.Types.{typed}
@@ -167,7 +167,15 @@ module _ (limits : Limits) (d : ℕ) where
   unfoldable pub array : Type_ → Parser Type_
   array x = next (λ t. length_by x t (sees m.OpenBracket t))
 
+-- behind the name of a type
+unfoldable pub type_rest : Limits → ℕ → Type_ → Parser Type_
+type_rest limits d x = turns (sees m.Dot) (project limits d) limits.turns x >>= array limits d
+
+-- what stands for types inside of a node that has no room
+abbrev pub no_types : Parser Type_
+no_types = past code.TooNested (place_of None)
+
 -- a type of which at most so many nodes stand on a path
 unfoldable pub types : Limits → ℕ → Parser Type_
-types limits zero = type_name limits false zero refuse
-types limits (suc d) = type_name limits true d (types limits d) >>= (λ x. turns (sees m.Dot) (project limits (suc d)) limits.turns x >>= array limits (suc d))
+types limits zero = type_name limits false zero no_types >>= type_rest limits zero
+types limits (suc d) = type_name limits true d (types limits d) >>= type_rest limits (suc d)
