@@ -2,3 +2,4 @@ pub mod Shared
 pub mod Heights
 pub mod TypesSpelled
 pub mod TypesRead
+pub mod TypesReady

@@ -25,7 +25,7 @@ use Rattle.slang_grammar.specs.Tables.{builtin_of, resource_of}
 use Rattle.slang_grammar.specs.Standing.{Stands, NameStands, IsNot}
 use Rattle.slang_grammar.specs.Types as t
 use Rattle.slang_grammar.specs.Types.{typed, TypeAt, TypeNameAt, ProjectionsAt, ArgumentsAt, MoreArgumentsAt, ArgumentAt, Quiet}
-use Rattle.slang_grammar.specs.Descent.{Limits, expect, name, identifier, if_short, bracketed}
+use Rattle.slang_grammar.specs.Descent.{Limits, fits_in, expect, name, identifier, if_short, bracketed}
 use Rattle.slang_grammar.specs.Heights.{greatest, height, argument_height}
 use Rattle.slang_grammar.specs.TypesDescent.{Type_, Argument, Arguments, WordUse, IsBuiltin, IsResource, IsThis, IsOther, resource_use, builtin_use, use_of, type_argument, begins_type, word_argument, argument_by, argument_of, argument, argument_more, arguments, name_rest_by, name_rest, resource_rest, node, type_word, type_by, type_of, type_name, project_rest, project_by, project, length_rest, length_by, array, type_rest, no_types, types}
 use Rattle.slang_grammar.proofs.Heights.{height_builtin, height_this, height_named, height_resource, height_projection, height_array, height_term, height_number, greatest_more}
@@ -111,7 +111,7 @@ module _ (E : Type 0) (e : E) (limits : Limits) where
       (λ seen1. reads_next E ts _ from seen1 (z, height z) (from + 1 + 1) (first (drop from ts)) (project_by limits d (x, height x) (first (drop from ts)) true) refl
           (ap (project_by limits d (x, height x) (first (drop from ts))) (is_there ts m.Dot from p s))
           (subst (λ o. ReadsChoice E ts from (z, height z) (from + 1 + 1) o (project_by limits d (x, height x) o true)) (sym s.is)
-            (reads_fits E ts from (z, height z) (from + 1 + 1) (Some _) (nat_lt (height x) d) code.TooNested (Take (project_rest limits d (x, height x))) (λ f. e)
+            (reads_fits E ts from (z, height z) (from + 1 + 1) (Some _) (fits_in limits (height x) d) code.TooNested (Take (project_rest limits d (x, height x))) (λ f. e)
             (λ seen2. reads_bind E ts (name limits) _ (from + 1) seen2 (from + 1 + 1) (from + 1 + 1) id (z, height z) (reads_name E ts e limits id (from + 1) seen2 i)
             (λ seen3. subst (λ a. Reads E (pure a) ts (from + 1 + 1) seen3 (z, height z) (from + 1 + 1)) (sym (with_height z (height x + 1) (height_projection (span x.place id.place) x id)))
               (reads_pure E ts (z, height z) (from + 1 + 1) seen3))))))
@@ -130,7 +130,7 @@ module _ (E : Type 0) (e : E) (limits : Limits) where
       reads_next E ts _ at seen (z, height z) (at + 1 + 1 + 1) (first (drop at ts)) (length_by limits d (x, height x) (first (drop at ts)) true) refl
       (ap (length_by limits d (x, height x) (first (drop at ts))) (is_there ts m.OpenBracket at p s))
       (subst (λ o. ReadsChoice E ts at (z, height z) (at + 1 + 1 + 1) o (length_by limits d (x, height x) o true)) (sym s.is)
-        (reads_fits E ts at (z, height z) (at + 1 + 1 + 1) (Some _) (nat_lt (height x) d) code.TooNested (Take (length_rest limits d (x, height x))) (λ f. e)
+        (reads_fits E ts at (z, height z) (at + 1 + 1 + 1) (Some _) (fits_in limits (height x) d) code.TooNested (Take (length_rest limits d (x, height x))) (λ f. e)
         (λ seen1. reads_bind E ts (bracketed limits) _ (at + 1) seen1 (at + 1 + 1) (at + 1 + 1 + 1) l (z, height z) (reads_bracketed E ts e limits l (at + 1) seen1 i)
         (λ seen2. reads_bind E ts (expect m.CloseBracket) _ (at + 1 + 1) seen2 (at + 1 + 1 + 1) (at + 1 + 1 + 1) end (z, height z) (reads_expect E ts m.CloseBracket end (at + 1 + 1) seen2 o)
         (λ seen3. subst (λ a. Reads E (pure a) ts (at + 1 + 1 + 1) seen3 (z, height z) (at + 1 + 1 + 1)) (sym (with_height z (height x + 1) (height_array (span x.place end) x l)))
@@ -302,15 +302,15 @@ module _ (E : Type 0) (e : E) (limits : Limits) where
     reads_argument {ts = ts} {from = from} (t.number_argument {p = p} {v = v} s) q room d count seen =
         let tok : Lexed = record { kind = k.Number v; place = p; bytes = s.bytes } in
         let z = g.Number p v in
-        reads_next E ts _ from seen (z, argument_height z) (from + 1) (Some tok) (if_fits (nat_lt count limits.items) code.TooLong (Some tok) (Take (pure (z, 0)))) s.is refl
-        (reads_fits E ts from (z, argument_height z) (from + 1) (Some tok) (nat_lt count limits.items) code.TooLong (Take (pure (z, 0))) (λ f. e)
+        reads_next E ts _ from seen (z, argument_height z) (from + 1) (Some tok) (if_fits (fits_in limits count limits.items) code.TooLong (Some tok) (Take (pure (z, 0)))) s.is refl
+        (reads_fits E ts from (z, argument_height z) (from + 1) (Some tok) (fits_in limits count limits.items) code.TooLong (Take (pure (z, 0))) (λ f. e)
         (λ seen1. subst (λ h. Reads {A = Argument} E (pure (z, h)) ts (from + 1) seen1 (z, argument_height z) (from + 1)) (height_number p v) (reads_pure E ts (z, argument_height z) (from + 1) seen1)))
     reads_argument {ts = ts} {from = from} {to = to} (t.type_argument {x = x} u) q room d count seen =
         let z = g.Term x in
         let b = begins u room d (types limits d) in
-        reads_next E ts _ from seen (z, argument_height z) to (Some b.tok) (if_fits (nat_lt count limits.items) code.TooLong (Some b.tok) (begins_type limits room d (types limits d) (Some b.tok))) b.is
-        (ap (if_fits (nat_lt count limits.items) code.TooLong (Some b.tok)) b.choice)
-        (reads_fits E ts from (z, argument_height z) to (Some b.tok) (nat_lt count limits.items) code.TooLong (begins_type limits room d (types limits d) (Some b.tok)) (λ f. e)
+        reads_next E ts _ from seen (z, argument_height z) to (Some b.tok) (if_fits (fits_in limits count limits.items) code.TooLong (Some b.tok) (begins_type limits room d (types limits d) (Some b.tok))) b.is
+        (ap (if_fits (fits_in limits count limits.items) code.TooLong (Some b.tok)) b.choice)
+        (reads_fits E ts from (z, argument_height z) to (Some b.tok) (fits_in limits count limits.items) code.TooLong (begins_type limits room d (types limits d) (Some b.tok)) (λ f. e)
         (reads_fits E ts from (z, argument_height z) to (Some b.tok) (nat_lt 0 d) code.TooNested (Leave (type_argument limits room d (types limits d))) (λ f. e)
         (λ seen1. reads_bind E ts (types limits d) _ from seen1 to to (x, height x) (z, argument_height z) (reads_type u q d seen1)
         (λ seen2. subst (λ h. Reads {A = Argument} E (pure (z, h)) ts to seen2 (z, argument_height z) to) (height_term x) (reads_pure E ts (z, argument_height z) to seen2)))))

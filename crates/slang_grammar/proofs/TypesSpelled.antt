@@ -24,7 +24,7 @@ use Rattle.slang_grammar.specs.Tables.{builtin_of, resource_of}
 use Rattle.slang_grammar.specs.Standing.{Stands, NameStands}
 use Rattle.slang_grammar.specs.Types as t
 use Rattle.slang_grammar.specs.Types.{typed, TypeAt, TypeNameAt, ProjectionsAt, ArgumentsAt, MoreArgumentsAt, ArgumentAt}
-use Rattle.slang_grammar.specs.Descent.{Limits, expect, name, identifier, if_short, bracketed}
+use Rattle.slang_grammar.specs.Descent.{Limits, fits_in, expect, name, identifier, if_short, bracketed}
 use Rattle.slang_grammar.specs.TypesDescent.{Type_, Argument, Arguments, WordUse, IsBuiltin, IsResource, IsThis, IsOther, other_use, resource_use, builtin_use, use_of, type_argument, begins_type, word_argument, argument_by, argument_of, argument, argument_more, arguments, name_rest_by, name_rest, resource_rest, node, type_word, type_by, type_of, type_name, project_rest, project_by, project, length_rest, length_by, array, type_rest, no_types, types}
 use Rattle.slang_grammar.proofs.Shared.{stands, name_stands, IsMarkAt, post_expect, IsNameAt, post_name, IsTermAt, post_bracketed}
 
@@ -115,7 +115,7 @@ module _ (ts : List Lexed) (limits : Limits) (room : Bool) (d : ℕ) (inner : Pa
   post_argument : (count at seen : ℕ) → Post (IsArgumentAt at) (argument limits room d inner count ts at seen)
   unfolding argument
   post_argument count at seen = post_next ts (IsArgumentAt at) _ at seen
-      (λ x e. post_fits ts (IsArgumentAt at) at x (nat_lt count limits.items) code.TooLong (argument_of limits room d inner x) (λ f. post_argument_of at x e))
+      (λ x e. post_fits ts (IsArgumentAt at) at x (fits_in limits count limits.items) code.TooLong (argument_of limits room d inner x) (λ f. post_argument_of at x e))
 
   -- one more argument
   MoreAt : Arguments → Arguments → ℕ → ℕ → Type 0
@@ -207,8 +207,8 @@ module _ (ts : List Lexed) (limits : Limits) (d : ℕ) where
 
       by : (t : Option Lexed) → first (drop at ts) ≡ t → (b : Bool) → sees m.Dot t ≡ b → PostChoice ts (λ y mid. ProjectAt x y at mid) at t (project_by limits d x t b)
       by (Some tok) e true q = let s = sees_some m.Dot (Some tok) q in
-          post_fits ts (λ y mid. ProjectAt x y at mid) at (Some tok) (nat_lt x.1 d) code.TooNested (Take (project_rest limits d x)) (λ f seen1. rest s.0 (e ∙ s.1) s.2 seen1)
-      by None e true q = post_fits ts (λ y mid. ProjectAt x y at mid) at None (nat_lt x.1 d) code.TooNested (Take (project_rest limits d x)) (λ f. tt)
+          post_fits ts (λ y mid. ProjectAt x y at mid) at (Some tok) (fits_in limits x.1 d) code.TooNested (Take (project_rest limits d x)) (λ f seen1. rest s.0 (e ∙ s.1) s.2 seen1)
+      by None e true q = post_fits ts (λ y mid. ProjectAt x y at mid) at None (fits_in limits x.1 d) code.TooNested (Take (project_rest limits d x)) (λ f. tt)
       by t e false q = tt
 
       go : (t : Option Lexed) → first (drop at ts) ≡ t → PostChoice ts (λ y mid. ProjectAt x y at mid) at t (project_by limits d x t (sees m.Dot t))
@@ -232,8 +232,8 @@ module _ (ts : List Lexed) (limits : Limits) (d : ℕ) where
 
       by : (o : Option Lexed) → first (drop at ts) ≡ o → (c : Bool) → sees m.OpenBracket o ≡ c → PostChoice ts (λ y to. TypeAt ts y.0 from to) at o (length_by limits d x o c)
       by (Some tok) e true q = let u = sees_some m.OpenBracket (Some tok) q in
-          post_fits ts (λ y to. TypeAt ts y.0 from to) at (Some tok) (nat_lt x.1 d) code.TooNested (Take (length_rest limits d x)) (λ f seen1. rest u.0 (e ∙ u.1) u.2 seen1)
-      by None e true q = post_fits ts (λ y to. TypeAt ts y.0 from to) at None (nat_lt x.1 d) code.TooNested (Take (length_rest limits d x)) (λ f. tt)
+          post_fits ts (λ y to. TypeAt ts y.0 from to) at (Some tok) (fits_in limits x.1 d) code.TooNested (Take (length_rest limits d x)) (λ f seen1. rest u.0 (e ∙ u.1) u.2 seen1)
+      by None e true q = post_fits ts (λ y to. TypeAt ts y.0 from to) at None (fits_in limits x.1 d) code.TooNested (Take (length_rest limits d x)) (λ f. tt)
       by o e false q = λ seen1. t.plain s r
 
       go : (o : Option Lexed) → first (drop at ts) ≡ o → PostChoice ts (λ y to. TypeAt ts y.0 from to) at o (length_by limits d x o (sees m.OpenBracket o))

@@ -1,6 +1,6 @@
 -- The descent: parsers that read what the grammar spells, with the limits of the language. This file has what all of them
 -- share.
-use Rattle.std.specs.Prelude.{ℕ, Bool, true, false, if◌then◌else◌, nat_le, List, length, Option, Some, None}
+use Rattle.std.specs.Prelude.{ℕ, Bool, true, false, ◌||◌, if◌then◌else◌, nat_le, nat_lt, List, length, Option, Some, None}
 use Rattle.slang_tree.specs.declared.places.Place.{Place}
 use Rattle.slang_tree.specs.declared.codes.ModuleCode.TheVariants as code
 use Rattle.slang_tree.specs.declared.types.Identifier.{Identifier}
@@ -13,11 +13,17 @@ use Rattle.slang_reading.specs.Lexed.{Lexed}
 use Rattle.slang_reading.specs.Reading.{Parser, Choice, Take, Refuse, if_fits, pure, next}
 use Rattle.slang_reading.specs.Kinds.{is_mark}
 
--- how many turns a loop makes, items a list has, and bytes a name has, at most
+-- How many turns a loop makes, items a list has, and bytes a name has, at most. A free parser lets lists be of any length
+-- and chains of any height; the program's is not, and is compared with one that is.
 pub record Limits : Type 0 where
   pub turns : ℕ
   pub items : ℕ
   pub names : ℕ
+  pub free : Bool
+
+-- whether one more fits behind so many
+abbrev pub fits_in : Limits → ℕ → ℕ → Bool
+fits_in limits n most = limits.free || nat_lt n most
 
 abbrev pub expected : Mark → Option Lexed → Choice Place
 expected mark (Some t) = if is_mark mark t.kind then Take (pure t.place) else Refuse

@@ -20,7 +20,7 @@ use Rattle.slang_reading.specs.Reading.{Parser, Choice, Leave, Take, Refuse, if_
 use Rattle.slang_reading.specs.Kinds.{is_mark, sees, span}
 use Rattle.slang_grammar.specs.Tables.{builtin_of, resource_of}
 use Rattle.slang_grammar.specs.Types.{typed}
-use Rattle.slang_grammar.specs.Descent.{Limits, expect, name, identifier, if_short, bracketed}
+use Rattle.slang_grammar.specs.Descent.{Limits, fits_in, expect, name, identifier, if_short, bracketed}
 
 -- a tree, and how many nodes stand on its longest path
 abbrev pub Type_ : Type 0
@@ -81,7 +81,7 @@ module _ (limits : Limits) (room : Bool) (d : ℕ) (inner : Parser Type_) where
 
   -- an argument behind so many others
   unfoldable pub argument : ℕ → Parser Argument
-  argument count = next (λ x. if_fits (nat_lt count limits.items) code.TooLong x (argument_of x))
+  argument count = next (λ x. if_fits (fits_in limits count limits.items) code.TooLong x (argument_of x))
 
   unfoldable pub argument_more : Arguments → Parser Arguments
   argument_more list = do
@@ -146,7 +146,7 @@ module _ (limits : Limits) (d : ℕ) where
   project_rest x = name limits >>= (λ id. pure (typed (span x.0.place id.place) (n.Projection x.0 id), x.1 + 1))
 
   abbrev pub project_by : Type_ → Option Lexed → Bool → Choice Type_
-  project_by x t true = if_fits (nat_lt x.1 d) code.TooNested t (Take (project_rest x))
+  project_by x t true = if_fits (fits_in limits x.1 d) code.TooNested t (Take (project_rest x))
   project_by x t false = Refuse
 
   unfoldable pub project : Type_ → Parser Type_
@@ -160,7 +160,7 @@ module _ (limits : Limits) (d : ℕ) where
     pure (typed (span x.0.place end) (n.Array x.0 t), x.1 + 1)
 
   abbrev pub length_by : Type_ → Option Lexed → Bool → Choice Type_
-  length_by x t true = if_fits (nat_lt x.1 d) code.TooNested t (Take (length_rest x))
+  length_by x t true = if_fits (fits_in limits x.1 d) code.TooNested t (Take (length_rest x))
   length_by x t false = Leave (pure x)
 
   -- a length in brackets, or nothing
