@@ -301,3 +301,87 @@ module _ (small large : Limits) (wide : Wider small large) where
         finishes : Finishes Ends (zero_number ∷ []) (next (λ x. if_fits (fits_in large count large.items) code.TooLong x (argument_of large true e q x)))
         finishes = finishes_next_take Ends (λ x. if_fits (fits_in large count large.items) code.TooLong x (argument_of large true e q x)) zero_number [] (pure _)
             (ap (λ f. if_fits (f || nat_lt count large.items) code.TooLong (Some zero_number) (argument_of large true e q (Some zero_number))) wide.free) (finishes_pure Ends _)
+
+    -- behind the arguments so far: nothing that goes on a type, and no comma
+    abbrev Closes : Option Lexed → Type 0
+    Closes x = Ends x × (sees m.Comma x ≡ false)
+
+    viable_argument_more : (list : Arguments) → Viable Ends (argument_more small room d p list) (argument_more large true e q list)
+    unfolding argument_more
+    viable_argument_more list = (ready_bind Ends Any (mark m.Comma ∷ []) (zero_number ∷ []) (expect m.Comma) (expect m.Comma) _ _ (λ rest f. tt) (ready_expect Any m.Comma)
+        (λ o. ready_last Ends (zero_number ∷ []) (argument small room d p (length list.0)) (argument large true e q (length list.0)) (λ x. (list.0 ++ x.0 ∷ [], max list.1 x.1)) (ready_argument (length list.0)))).viable
+
+    ready_arguments : Ready Any (mark m.Less ∷ zero_number ∷ mark m.Greater ∷ []) (arguments small room d p) (arguments large true e q)
+    unfolding arguments
+    ready_arguments = ready_bind Any Any (mark m.Less ∷ []) (zero_number ∷ mark m.Greater ∷ []) (expect m.Less) (expect m.Less) _ _ (λ rest f. tt) (ready_expect Any m.Less)
+        (λ o. ready_bind Any Ends (zero_number ∷ []) (mark m.Greater ∷ []) (argument small room d p 0) (argument large true e q 0) _ _ (λ rest f. (refl, refl, refl)) (ready_argument 0)
+        (λ x. ready_bind Any Closes [] (mark m.Greater ∷ []) (turns (sees m.Comma) (argument_more small room d p) small.turns (x.0 ∷ [], x.1)) (turns (sees m.Comma) (argument_more large true e q) large.turns (x.0 ∷ [], x.1)) _ _
+          (λ rest f. ((refl, refl, refl), refl))
+          (ready_turns Closes Ends (sees m.Comma) (argument_more small room d p) (argument_more large true e q) small.turns large.turns (x.0 ∷ [], x.1) wide.turns (λ y c. c.0) (λ y c. c.1) viable_argument_more)
+        (λ list. ready_last Any (mark m.Greater ∷ []) (expect m.Greater) (expect m.Greater) (λ end. (list, end)) (ready_expect Any m.Greater))))
+
+    viable_name_rest : (id : Identifier) → Viable Ends (name_rest small room d p id) (name_rest large true e q id)
+    unfolding name_rest
+    viable_name_rest id = viable_next Ends (λ x. name_rest_by large true e q id (sees m.Less x)) (λ x. name_rest_by small room d p id (sees m.Less x)) []
+        (finishes_next_end Ends (λ x. name_rest_by large true e q id (sees m.Less x)) (λ x. pure (typed id.place (n.Named id []), 1)) (λ x c. ap (name_rest_by large true e q id) c.0) (λ x. finishes_pure Ends _))
+        (λ x. by (sees m.Less x))
+      where
+        by : (b : Bool) → EachPair (Viable Ends) (name_rest_by small room d p id b) (name_rest_by large true e q id b)
+        by true = viable_bind Ends Any (arguments large true e q) _ [] (λ rest c. tt) (arguments small room d p) _ ready_arguments.viable (λ a. viable_pure Ends _) (λ a. finishes_pure Ends _)
+        by false = viable_pure Ends _
+
+    viable_resource_rest : (place : Place) (r : Resource) → Viable Ends (resource_rest small room d p place r) (resource_rest large true e q place r)
+    unfolding resource_rest
+    viable_resource_rest place r = (ready_bind Ends Any (mark m.Less ∷ []) (int_word ∷ mark m.Greater ∷ []) (expect m.Less) (expect m.Less) _ _ (λ rest c. tt) (ready_expect Any m.Less)
+        (λ o. ready_bind Ends Ends (int_word ∷ []) (mark m.Greater ∷ []) p q _ _ (λ rest c. (refl, refl, refl)) (record { viable = v; finishes = f })
+        (λ x. ready_last Ends (mark m.Greater ∷ []) (expect m.Greater) (expect m.Greater) (λ end. (typed (span place end) (n.Resource r x.0), x.1 + 1)) (ready_expect Ends m.Greater)))).viable
+
+    pair_node : (t : Lexed) (c u : Choice Type_) → EachPair (Viable Ends) c u → EachPair (Viable Ends) (node small room d p t c) (node large true e q t u)
+    pair_node t c u x = pair_fits Ends room true code.TooNested (Some t) c u (λ k. refl) x
+
+    pair_type_word : (t : Lexed) (u : WordUse) → EachPair (Viable Ends) (type_word small room d p t u) (type_word large true e q t u)
+    pair_type_word t (IsBuiltin b) = pair_node t (Take (pure (typed t.place (n.Builtin b), 1))) (Take (pure (typed t.place (n.Builtin b), 1))) (viable_pure Ends _)
+    pair_type_word t (IsResource r) = pair_node t (Take (resource_rest small room d p t.place r)) (Take (resource_rest large true e q t.place r)) (viable_resource_rest t.place r)
+    pair_type_word t IsThis = pair_node t (Take (pure (typed t.place n.ThisType, 1))) (Take (pure (typed t.place n.ThisType, 1))) (viable_pure Ends _)
+    pair_type_word t IsOther = tt
+
+    pair_type_by : (t : Lexed) (kind : Kind) → EachPair (Viable Ends) (type_by small room d p t kind) (type_by large true e q t kind)
+    pair_type_by t k.Name = pair_short Ends t (node small room d p t (Take (name_rest small room d p (identifier t)))) (node large true e q t (Take (name_rest large true e q (identifier t))))
+        (pair_node t (Take (name_rest small room d p (identifier t))) (Take (name_rest large true e q (identifier t))) (viable_name_rest (identifier t)))
+    pair_type_by t (k.Word word) = pair_type_word t (use_of word)
+    pair_type_by t (k.Number x) = tt
+    pair_type_by t k.String = tt
+    pair_type_by t (k.Mark mark) = tt
+
+    pair_type_of : (x : Option Lexed) → EachPair (Viable Ends) (type_of small room d p x) (type_of large true e q x)
+    pair_type_of (Some t) = pair_type_by t t.kind
+    pair_type_of None = tt
+
+    ready_type_name : Ready Ends (int_word ∷ []) (type_name small room d p) (type_name large true e q)
+    unfolding type_name
+    ready_type_name = record {
+      viable = viable_next Ends (type_of large true e q) (type_of small room d p) (int_word ∷ []) (finishes_int e q) pair_type_of;
+      finishes = finishes_int e q;
+    }
+      where
+        finishes_int : (e : ℕ) (q : Parser Type_) → Finishes Ends (int_word ∷ []) (next (type_of large true e q))
+        finishes_int e q = finishes_next_take Ends (type_of large true e q) int_word [] (pure _) refl (finishes_pure Ends _)
+
+  -- with one node of room the shortest type is read
+  finishes_types : (e : ℕ) → Finishes Ends (int_word ∷ []) (types large (suc e))
+  unfolding types type_name
+  finishes_types e = finishes_bind Ends Ends (type_name large true e (types large e)) (type_rest large (suc e)) [] (λ rest c. c) (int_word ∷ [])
+      (finishes_next_take Ends (type_of large true e (types large e)) int_word [] (pure _) refl (finishes_pure Ends _)) (λ x. (ready_type_rest (suc e) (suc e) x).finishes)
+
+  -- A type of so many nodes beside one of at least two more: what was looked at of it, but for the last token, goes on to
+  -- be a type.
+  pub ready_types : (e d : ℕ) → d + 1 < e → Ready Ends (int_word ∷ []) (types small d) (types large e)
+  unfolding types
+  ready_types zero d h = absurd (omega arith)
+  ready_types (suc zero) d h = absurd (omega arith)
+  ready_types (suc (suc e)) zero h = ready_bind Ends Ends (int_word ∷ []) [] (type_name small false zero no_types) (type_name large true (suc e) (types large (suc e))) (type_rest small zero) (type_rest large (suc (suc e))) (λ rest c. c)
+      (ready_type_name false zero (suc e) (λ z. omega arith) no_types (types large (suc e)) (viable_past Ends _ _ (types large (suc e)) (tame_types (suc e))) (finishes_types e))
+      (ready_type_rest zero (suc (suc e)))
+  ready_types (suc (suc e)) (suc d) h = ready_bind Ends Ends (int_word ∷ []) [] (type_name small true d (types small d)) (type_name large true (suc e) (types large (suc e))) (type_rest small (suc d)) (type_rest large (suc (suc e))) (λ rest c. c)
+      (ready_type_name true d (suc e) (λ z. omega arith) (types small d) (types large (suc e)) (ready_types (suc e) d (omega arith)).viable (finishes_types e))
+      (ready_type_rest (suc d) (suc (suc e)))
