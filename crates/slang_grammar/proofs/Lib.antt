@@ -3,3 +3,4 @@ pub mod Heights
 pub mod TypesSpelled
 pub mod TypesRead
 pub mod TypesReady
+pub mod TypesWrong

@@ -10,7 +10,7 @@ use Rattle.slang_tokens.specs.declared.tokens.Kind.{Kind}
 use Rattle.slang_tokens.specs.declared.tokens.Kind.TheVariants as k
 use Rattle.slang_tokens.specs.declared.tokens.Mark.{Mark}
 use Rattle.slang_reading.specs.Lexed.{Lexed}
-use Rattle.slang_reading.specs.Reading.{first, Choice, Take, Refuse, if_fits, pure, next}
+use Rattle.slang_reading.specs.Reading.{first, Choice, Take, Refuse, pure}
 use Rattle.slang_reading.specs.Kinds.{is_mark, sees}
 use Rattle.slang_reading.proofs.Marks.{mark_is, mark_sees}
 use Rattle.slang_reading.proofs.Exact.{Post, PostChoice, post_next, post_fits, Reads, ReadsChoice, reads_next, reads_pure, reads_fits}

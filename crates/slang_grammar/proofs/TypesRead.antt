@@ -1,10 +1,8 @@
 -- Types: what is spelled is read, unless a limit is passed.
-use Rattle.std.proofs.Common.{Bool, true, false, ◌≡◌, ℕ, zero, suc, ◌+◌, max, List, [], ◌∷◌, ◌++◌, map, drop, length, Option, Some, None, refl, sym, ◌∙◌, ap, subst, arith}
-use Rattle.std.specs.Prelude.{nat_le, nat_lt}
+use Rattle.std.proofs.Common.{Bool, true, false, ◌≡◌, ℕ, zero, suc, ◌+◌, List, [], ◌∷◌, ◌++◌, map, drop, length, Some, refl, sym, ap, subst, arith}
+use Rattle.std.specs.Prelude.{nat_lt}
 use Rattle.slang_tree.specs.declared.places.Place.{Place}
 use Rattle.slang_tree.specs.declared.codes.ModuleCode.TheVariants as code
-use Rattle.slang_tree.specs.declared.numbers.Number.{Number}
-use Rattle.slang_tree.specs.declared.types.Identifier.{Identifier}
 use Rattle.slang_tree.specs.declared.types.Builtin.{Builtin}
 use Rattle.slang_tree.specs.declared.types.Resource.{Resource}
 use Rattle.slang_tree.specs.declared.types.Term.{Term}
@@ -18,16 +16,16 @@ use Rattle.slang_tokens.specs.declared.tokens.Mark.TheVariants as m
 use Rattle.slang_tokens.specs.declared.tokens.Word.{Word}
 use Rattle.slang_tokens.specs.declared.tokens.Word.TheVariants as w
 use Rattle.slang_reading.specs.Lexed.{Lexed}
-use Rattle.slang_reading.specs.Reading.{Outcome, Done, Stop, Past, and_then, bind, Parser, Choice, Leave, Take, Refuse, first, if_fits, ◌>>=◌, pure, next, turns}
+use Rattle.slang_reading.specs.Reading.{Outcome, Done, Stop, Past, and_then, bind, Parser, Choice, Leave, Take, first, if_fits, ◌>>=◌, pure, turns}
 use Rattle.slang_reading.specs.Kinds.{sees, span}
 use Rattle.slang_reading.proofs.Exact.{Meets, Reads, ReadsChoice, reads_pure, reads_bind, reads_next, reads_fits, reads_turns_end, reads_turns_more, reads_turns_full}
 use Rattle.slang_grammar.specs.Tables.{builtin_of, resource_of}
-use Rattle.slang_grammar.specs.Standing.{Stands, NameStands, IsNot}
+use Rattle.slang_grammar.specs.Standing.{Stands, IsNot}
 use Rattle.slang_grammar.specs.Types as t
 use Rattle.slang_grammar.specs.Types.{typed, TypeAt, TypeNameAt, ProjectionsAt, ArgumentsAt, MoreArgumentsAt, ArgumentAt, Quiet}
-use Rattle.slang_grammar.specs.Descent.{Limits, fits_in, expect, name, identifier, if_short, bracketed}
+use Rattle.slang_grammar.specs.Descent.{Limits, fits_in, expect, name, identifier, bracketed}
 use Rattle.slang_grammar.specs.Heights.{greatest, height, argument_height}
-use Rattle.slang_grammar.specs.TypesDescent.{Type_, Argument, Arguments, WordUse, IsBuiltin, IsResource, IsThis, IsOther, resource_use, builtin_use, use_of, type_argument, begins_type, word_argument, argument_by, argument_of, argument, argument_more, arguments, name_rest_by, name_rest, resource_rest, node, type_word, type_by, type_of, type_name, project_rest, project_by, project, length_rest, length_by, array, type_rest, no_types, types}
+use Rattle.slang_grammar.specs.TypesDescent.{Type_, Argument, Arguments, IsBuiltin, IsResource, IsThis, builtin_use, use_of, type_argument, begins_type, word_argument, argument_of, argument, argument_more, arguments, name_rest_by, name_rest, resource_rest, node, type_word, type_by, type_of, type_name, project_rest, project_by, project, length_rest, length_by, array, type_rest, no_types, types}
 use Rattle.slang_grammar.proofs.Heights.{height_builtin, height_this, height_named, height_resource, height_projection, height_array, height_term, height_number, greatest_more}
 use Rattle.slang_grammar.proofs.Shared.{reads_expect, reads_short, reads_name, reads_bracketed, not_there, is_there}
 
@@ -109,12 +107,12 @@ module _ (E : Type 0) (e : E) (limits : Limits) where
       let z = typed (span x.place id.place) (n.Projection x id) in
       reads_turns_more E ts (sees m.Dot) (project limits d) count (x, height x) (z, height z) (y, height y) from seen (from + 1 + 1) to (is_there ts m.Dot from p s)
       (λ seen1. reads_next E ts _ from seen1 (z, height z) (from + 1 + 1) (first (drop from ts)) (project_by limits d (x, height x) (first (drop from ts)) true) refl
-          (ap (project_by limits d (x, height x) (first (drop from ts))) (is_there ts m.Dot from p s))
-          (subst (λ o. ReadsChoice E ts from (z, height z) (from + 1 + 1) o (project_by limits d (x, height x) o true)) (sym s.is)
-            (reads_fits E ts from (z, height z) (from + 1 + 1) (Some _) (fits_in limits (height x) d) code.TooNested (Take (project_rest limits d (x, height x))) (λ f. e)
-            (λ seen2. reads_bind E ts (name limits) _ (from + 1) seen2 (from + 1 + 1) (from + 1 + 1) id (z, height z) (reads_name E ts e limits id (from + 1) seen2 i)
-            (λ seen3. subst (λ a. Reads E (pure a) ts (from + 1 + 1) seen3 (z, height z) (from + 1 + 1)) (sym (with_height z (height x + 1) (height_projection (span x.place id.place) x id)))
-              (reads_pure E ts (z, height z) (from + 1 + 1) seen3))))))
+      (ap (project_by limits d (x, height x) (first (drop from ts))) (is_there ts m.Dot from p s))
+      (subst (λ o. ReadsChoice E ts from (z, height z) (from + 1 + 1) o (project_by limits d (x, height x) o true)) (sym s.is)
+      (reads_fits E ts from (z, height z) (from + 1 + 1) (Some _) (fits_in limits (height x) d) code.TooNested (Take (project_rest limits d (x, height x))) (λ f. e)
+      (λ seen2. reads_bind E ts (name limits) _ (from + 1) seen2 (from + 1 + 1) (from + 1 + 1) id (z, height z) (reads_name E ts e limits id (from + 1) seen2 i)
+      (λ seen3. subst (λ a. Reads E (pure a) ts (from + 1 + 1) seen3 (z, height z) (from + 1 + 1)) (sym (with_height z (height x + 1) (height_projection (span x.place id.place) x id)))
+      (reads_pure E ts (z, height z) (from + 1 + 1) seen3))))))
       (λ seen1. reads_projections r q d count seen1)
 
   reads_array : {ts : List Lexed} (x : TypeTree) (to : ℕ) → IsNot ts m.OpenBracket to → (d seen : ℕ) → Reads E (array limits d (x, height x)) ts to seen (x, height x) to
@@ -130,11 +128,11 @@ module _ (E : Type 0) (e : E) (limits : Limits) where
       reads_next E ts _ at seen (z, height z) (at + 1 + 1 + 1) (first (drop at ts)) (length_by limits d (x, height x) (first (drop at ts)) true) refl
       (ap (length_by limits d (x, height x) (first (drop at ts))) (is_there ts m.OpenBracket at p s))
       (subst (λ o. ReadsChoice E ts at (z, height z) (at + 1 + 1 + 1) o (length_by limits d (x, height x) o true)) (sym s.is)
-        (reads_fits E ts at (z, height z) (at + 1 + 1 + 1) (Some _) (fits_in limits (height x) d) code.TooNested (Take (length_rest limits d (x, height x))) (λ f. e)
-        (λ seen1. reads_bind E ts (bracketed limits) _ (at + 1) seen1 (at + 1 + 1) (at + 1 + 1 + 1) l (z, height z) (reads_bracketed E ts e limits l (at + 1) seen1 i)
-        (λ seen2. reads_bind E ts (expect m.CloseBracket) _ (at + 1 + 1) seen2 (at + 1 + 1 + 1) (at + 1 + 1 + 1) end (z, height z) (reads_expect E ts m.CloseBracket end (at + 1 + 1) seen2 o)
-        (λ seen3. subst (λ a. Reads E (pure a) ts (at + 1 + 1 + 1) seen3 (z, height z) (at + 1 + 1 + 1)) (sym (with_height z (height x + 1) (height_array (span x.place end) x l)))
-          (reads_pure E ts (z, height z) (at + 1 + 1 + 1) seen3))))))
+      (reads_fits E ts at (z, height z) (at + 1 + 1 + 1) (Some _) (fits_in limits (height x) d) code.TooNested (Take (length_rest limits d (x, height x))) (λ f. e)
+      (λ seen1. reads_bind E ts (bracketed limits) _ (at + 1) seen1 (at + 1 + 1) (at + 1 + 1 + 1) l (z, height z) (reads_bracketed E ts e limits l (at + 1) seen1 i)
+      (λ seen2. reads_bind E ts (expect m.CloseBracket) _ (at + 1 + 1) seen2 (at + 1 + 1 + 1) (at + 1 + 1 + 1) end (z, height z) (reads_expect E ts m.CloseBracket end (at + 1 + 1) seen2 o)
+      (λ seen3. subst (λ a. Reads E (pure a) ts (at + 1 + 1 + 1) seen3 (z, height z) (at + 1 + 1 + 1)) (sym (with_height z (height x + 1) (height_array (span x.place end) x l)))
+      (reads_pure E ts (z, height z) (at + 1 + 1 + 1) seen3))))))
 
   -- a node that begins with the token, or an excuse
   reads_node : (ts : List Lexed) (room : Bool) (d : ℕ) (inner : Parser Type_) (at : ℕ) (a : Type_) (to : ℕ) (tok : Lexed) (c : Choice Type_) → ReadsChoice E ts at a to (Some tok) c →
@@ -212,19 +210,20 @@ module _ (E : Type 0) (e : E) (limits : Limits) where
 
   mutual
     unfolding types type_rest type_name name_rest resource_rest arguments argument_more argument type_argument
+
     pub reads_type : {ts : List Lexed} {x : TypeTree} {from to : ℕ} → TypeAt ts x from to → Quiet ts to → (d seen : ℕ) → Reads E (types limits d) ts from seen (x, height x) to
     reads_type {ts = ts} {x = x} {from = from} {to = to} (t.plain s r) q zero seen = passes ts x from to s seen
     reads_type {ts = ts} {x = x} {from = from} {to = to} (t.array s r o l c) q zero seen = passes ts x from to s seen
     reads_type {ts = ts} {from = from} {to = to} (t.plain {mid = mid} {x = x} {y = y} s r) q (suc d) seen =
         reads_bind E ts (type_name limits true d (types limits d)) _ from seen mid to (x, height x) (y, height y) (reads_type_name s (projections_less r q.less) d seen)
         (λ seen1. reads_bind E ts (turns (sees m.Dot) (project limits (suc d)) limits.turns (x, height x)) (array limits (suc d)) mid seen1 to to (y, height y) (y, height y)
-          (reads_projections r q.dot (suc d) limits.turns seen1) (λ seen2. reads_array y to q.bracket (suc d) seen2))
+        (reads_projections r q.dot (suc d) limits.turns seen1) (λ seen2. reads_array y to q.bracket (suc d) seen2))
     reads_type {ts = ts} {from = from} (t.array {mid = mid} {at = at} {x = x} {y = y} {t = l} {p = p} {end = end} s r o u c) q (suc d) seen =
         let z = typed (span y.place end) (n.Array y l) in
         reads_bind E ts (type_name limits true d (types limits d)) _ from seen mid (at + 1 + 1 + 1) (x, height x) (z, height z)
         (reads_type_name s (projections_less r (not_there ts m.Less at (k.Mark m.OpenBracket) p o refl)) d seen)
         (λ seen1. reads_bind E ts (turns (sees m.Dot) (project limits (suc d)) limits.turns (x, height x)) (array limits (suc d)) mid seen1 at (at + 1 + 1 + 1) (y, height y) (z, height z)
-          (reads_projections r (not_there ts m.Dot at (k.Mark m.OpenBracket) p o refl) (suc d) limits.turns seen1) (λ seen2. reads_length y l at p end o u c (suc d) seen2))
+        (reads_projections r (not_there ts m.Dot at (k.Mark m.OpenBracket) p o refl) (suc d) limits.turns seen1) (λ seen2. reads_length y l at p end o u c (suc d) seen2))
 
     reads_type_name : {ts : List Lexed} {x : TypeTree} {from to : ℕ} → TypeNameAt ts x from to → IsNot ts m.Less to → (d seen : ℕ) →
         Reads E (type_name limits true d (types limits d)) ts from seen (x, height x) to
@@ -247,7 +246,7 @@ module _ (E : Type 0) (e : E) (limits : Limits) where
         (reads_short E ts e limits from (z, height z) (from + 1) tok (node limits true d (types limits d) tok (Take rest))
         (reads_node ts true d (types limits d) from (z, height z) (from + 1) tok (Take rest)
         (λ seen1. reads_next E ts _ (from + 1) seen1 (z, height z) (from + 1) (first (drop (from + 1) ts)) (Leave (pure (z, 1))) refl
-          (ap (name_rest_by limits true d (types limits d) id) l.is) (λ seen2. reads_tall ts z 1 (from + 1) seen2 (height_named id.place id [])))))
+        (ap (name_rest_by limits true d (types limits d) id) l.is) (λ seen2. reads_tall ts z 1 (from + 1) seen2 (height_named id.place id [])))))
     reads_type_name {ts = ts} {from = from} {to = to} (t.generic {id = id} {args = args} {end = end} i a) l d seen =
         let tok : Lexed = record { kind = k.Name; place = id.place; bytes = id.name } in
         let z = typed (span id.place end) (n.Named id args) in
@@ -256,9 +255,9 @@ module _ (E : Type 0) (e : E) (limits : Limits) where
         (reads_short E ts e limits from (z, height z) to tok (node limits true d (types limits d) tok (Take rest))
         (reads_node ts true d (types limits d) from (z, height z) to tok (Take rest)
         (λ seen1. reads_next E ts _ (from + 1) seen1 (z, height z) to (first (drop (from + 1) ts)) (name_rest_by limits true d (types limits d) id true) refl
-          (ap (name_rest_by limits true d (types limits d) id) (less_there a))
-          (λ seen2. reads_bind E ts (arguments limits true d (types limits d)) _ (from + 1) seen2 to to ((args, tallest args), end) (z, height z) (reads_arguments a true d seen2)
-            (λ seen3. reads_tall ts z (tallest args + 1) to seen3 (height_named (span id.place end) id args))))))
+        (ap (name_rest_by limits true d (types limits d) id) (less_there a))
+        (λ seen2. reads_bind E ts (arguments limits true d (types limits d)) _ (from + 1) seen2 to to ((args, tallest args), end) (z, height z) (reads_arguments a true d seen2)
+        (λ seen3. reads_tall ts z (tallest args + 1) to seen3 (height_named (span id.place end) id args))))))
     reads_type_name {ts = ts} {from = from} (t.resource {at = at} {p = p} {q = q} {end = end} {word = word} {r = r} {x = x} s u o v c) l d seen =
         let tok : Lexed = record { kind = k.Word word; place = p; bytes = s.bytes } in
         let z = typed (span p end) (n.Resource r x) in
@@ -276,10 +275,10 @@ module _ (E : Type 0) (e : E) (limits : Limits) where
         let q = quiet_mark ts at (k.Mark m.Greater) end o refl refl refl in
         reads_bind E ts (expect m.Less) _ from seen (from + 1) (at + 1) p ((args, tallest args), end) (reads_expect E ts m.Less p from seen s)
         (λ seen1. reads_bind E ts (argument limits room d (types limits d) 0) _ (from + 1) seen1 mid (at + 1) (x, argument_height x) ((args, tallest args), end)
-          (reads_argument a (arguments_quiet r q) room d 0 seen1)
+        (reads_argument a (arguments_quiet r q) room d 0 seen1)
         (λ seen2. reads_bind E ts (turns (sees m.Comma) (argument_more limits room d (types limits d)) limits.turns (x ∷ [], argument_height x)) _ mid seen2 at (at + 1) (args, tallest args) ((args, tallest args), end)
-          (subst (λ h. Reads E (turns (sees m.Comma) (argument_more limits room d (types limits d)) limits.turns (x ∷ [], h)) ts mid seen2 (args, tallest args) at) (tallest_one x)
-            (reads_more r q (not_there ts m.Comma at (k.Mark m.Greater) end o refl) room d limits.turns seen2))
+        (subst (λ h. Reads E (turns (sees m.Comma) (argument_more limits room d (types limits d)) limits.turns (x ∷ [], h)) ts mid seen2 (args, tallest args) at) (tallest_one x)
+        (reads_more r q (not_there ts m.Comma at (k.Mark m.Greater) end o refl) room d limits.turns seen2))
         (λ seen3. reads_bind E ts (expect m.Greater) _ at seen3 (at + 1) (at + 1) end ((args, tallest args), end) (reads_expect E ts m.Greater end at seen3 o)
         (λ seen4. reads_pure E ts ((args, tallest args), end) (at + 1) seen4))))
 
@@ -292,9 +291,9 @@ module _ (E : Type 0) (e : E) (limits : Limits) where
         let zs = xs ++ x ∷ [] in
         reads_turns_more E ts (sees m.Comma) (argument_more limits room d (types limits d)) count (xs, tallest xs) (zs, tallest zs) (ys, tallest ys) from seen mid to (is_there ts m.Comma from p s)
         (λ seen1. reads_bind E ts (expect m.Comma) _ from seen1 (from + 1) mid p (zs, tallest zs) (reads_expect E ts m.Comma p from seen1 s)
-          (λ seen2. reads_bind E ts (argument limits room d (types limits d) (length xs)) _ (from + 1) seen2 mid mid (x, argument_height x) (zs, tallest zs)
-            (reads_argument a (arguments_quiet r q) room d (length xs) seen2)
-          (λ seen3. subst (λ h. Reads {A = Arguments} E (pure (zs, h)) ts mid seen3 (zs, tallest zs) mid) (greatest_more xs x) (reads_pure E ts (zs, tallest zs) mid seen3))))
+        (λ seen2. reads_bind E ts (argument limits room d (types limits d) (length xs)) _ (from + 1) seen2 mid mid (x, argument_height x) (zs, tallest zs)
+        (reads_argument a (arguments_quiet r q) room d (length xs) seen2)
+        (λ seen3. subst (λ h. Reads {A = Arguments} E (pure (zs, h)) ts mid seen3 (zs, tallest zs) mid) (greatest_more xs x) (reads_pure E ts (zs, tallest zs) mid seen3))))
         (λ seen1. reads_more r q c room d count seen1)
 
     reads_argument : {ts : List Lexed} {x : GenericArgument} {from to : ℕ} → ArgumentAt ts x from to → Quiet ts to → (room : Bool) (d count seen : ℕ) →

@@ -1,5 +1,5 @@
 -- Types: what was looked at, but for the last token, goes on to be a type.
-use Rattle.std.proofs.Common.{Bool, true, false, ◌≡◌, ℕ, zero, suc, ◌+◌, ◌<◌, ◌≤◌, max, List, [], ◌∷◌, ◌++◌, length, Option, Some, None, refl, sym, ◌∙◌, ap, subst, eq-eqb, ◌||◌, if◌then◌else◌, arith}
+use Rattle.std.proofs.Common.{Bool, true, false, ◌≡◌, ℕ, zero, suc, ◌+◌, ◌<◌, ◌≤◌, max, List, [], ◌∷◌, ◌++◌, length, Option, Some, None, refl, ap, eq-eqb, ◌||◌, if◌then◌else◌, arith}
 use Rattle.std.specs.Prelude.{nat_le, nat_lt}
 use Rattle.std.proofs.lemmas.Bool.Decides.{nat_tests}
 use Rattle.slang_tree.specs.declared.places.Place.{Place}
@@ -7,23 +7,20 @@ use Rattle.slang_tree.specs.declared.codes.ModuleCode.TheVariants as code
 use Rattle.slang_tree.specs.declared.numbers.NumberKind.TheVariants as sign
 use Rattle.slang_tree.specs.declared.types.Identifier.{Identifier}
 use Rattle.slang_tree.specs.declared.types.Resource.{Resource}
-use Rattle.slang_tree.specs.declared.types.Term.{Term}
 use Rattle.slang_tree.specs.declared.types.TypeNode.TheVariants as n
-use Rattle.slang_tree.specs.declared.types.GenericArgument.TheVariants as g
 use Rattle.slang_tokens.specs.declared.tokens.Kind.{Kind}
 use Rattle.slang_tokens.specs.declared.tokens.Kind.TheVariants as k
 use Rattle.slang_tokens.specs.declared.tokens.Mark.{Mark}
 use Rattle.slang_tokens.specs.declared.tokens.Mark.TheVariants as m
-use Rattle.slang_tokens.specs.declared.tokens.Word.{Word}
 use Rattle.slang_tokens.specs.declared.tokens.Word.TheVariants as w
 use Rattle.slang_reading.specs.Lexed.{Lexed}
-use Rattle.slang_reading.specs.Reading.{Parser, Choice, Leave, Take, Refuse, Pass, place_of, first, if_fits, bind, ◌>>=◌, pure, past, next, turns}
+use Rattle.slang_reading.specs.Reading.{Parser, Choice, Leave, Take, Refuse, if_fits, pure, next, turns}
 use Rattle.slang_reading.specs.Kinds.{mark_code, is_mark, sees, span}
 use Rattle.slang_reading.proofs.Tame.{Tame, tame_pure, tame_past, tame_bind, Each, each_fits, tame_next, tame_turns}
-use Rattle.slang_reading.proofs.Viable.{Finishes, Viable, viable_pure, viable_past, finishes_pure, finishes_bind, viable_bind, EachPair, finishes_next_take, finishes_next_leave, finishes_next_end, viable_next, pair_fits, finishes_turns, viable_turns, viable_narrow, finishes_narrow, Ready, ready_pure, ready_bind, ready_last, ready_turns}
+use Rattle.slang_reading.proofs.Viable.{Finishes, Viable, viable_pure, viable_past, finishes_pure, finishes_bind, viable_bind, EachPair, finishes_next_take, finishes_next_end, viable_next, pair_fits, Ready, ready_bind, ready_last, ready_turns}
 use Rattle.slang_grammar.specs.Types.{typed}
 use Rattle.slang_grammar.specs.Descent.{Limits, fits_in, expected, expect, name, identifier, if_short, named_by, named, termed_by, termed, bracketed}
-use Rattle.slang_grammar.specs.TypesDescent.{Type_, Argument, Arguments, WordUse, IsBuiltin, IsResource, IsThis, IsOther, use_of, type_argument, begins_type, word_argument, argument_by, argument_of, argument, argument_more, arguments, name_rest_by, name_rest, resource_rest, node, type_word, type_by, type_of, type_name, project_rest, project_by, project, length_rest, length_by, array, type_rest, no_types, types}
+use Rattle.slang_grammar.specs.TypesDescent.{Type_, Arguments, WordUse, IsBuiltin, IsResource, IsThis, IsOther, use_of, type_argument, begins_type, word_argument, argument_by, argument_of, argument, argument_more, arguments, name_rest_by, name_rest, resource_rest, node, type_word, type_by, type_of, type_name, project_rest, project_by, project, length_rest, length_by, array, type_rest, no_types, types}
 
 -- a token, at no place in particular
 abbrev pub token : Kind → Lexed
@@ -226,7 +223,7 @@ module _ (small large : Limits) (wide : Wider small large) where
     unfolding project
     viable_project x = viable_next Ends (λ t. project_by large e x t (sees m.Dot t)) (λ t. project_by small d x t (sees m.Dot t)) (mark m.Dot ∷ token k.Name ∷ [])
         (finishes_next_take Ends (λ t. project_by large e x t (sees m.Dot t)) (mark m.Dot) (token k.Name ∷ []) (project_rest large e x)
-          (ap (λ f. if_fits (f || nat_lt x.1 e) code.TooNested (Some (mark m.Dot)) (Take (project_rest large e x))) wide.free) (ready_project_rest x).finishes)
+        (ap (λ f. if_fits (f || nat_lt x.1 e) code.TooNested (Some (mark m.Dot)) (Take (project_rest large e x))) wide.free) (ready_project_rest x).finishes)
         (λ t. by t (sees m.Dot t))
       where
         by : (t : Option Lexed) (b : Bool) → EachPair (Viable Ends) (project_by small d x t b) (project_by large e x t b)
@@ -295,8 +292,11 @@ module _ (small large : Limits) (wide : Wider small large) where
 
     ready_argument : (count : ℕ) → Ready Ends (zero_number ∷ []) (argument small room d p count) (argument large true e q count)
     unfolding argument
-    ready_argument count = record { viable = viable_next Ends (λ x. if_fits (fits_in large count large.items) code.TooLong x (argument_of large true e q x)) (λ x. if_fits (fits_in small count small.items) code.TooLong x (argument_of small room d p x)) (zero_number ∷ []) finishes
-        (λ x. pair_items Ends x count small.items large.items (argument_of small room d p x) (argument_of large true e q x) (pair_argument_of x)); finishes = finishes }
+    ready_argument count = record {
+      viable = viable_next Ends (λ x. if_fits (fits_in large count large.items) code.TooLong x (argument_of large true e q x)) (λ x. if_fits (fits_in small count small.items) code.TooLong x (argument_of small room d p x)) (zero_number ∷ []) finishes
+          (λ x. pair_items Ends x count small.items large.items (argument_of small room d p x) (argument_of large true e q x) (pair_argument_of x));
+      finishes = finishes;
+    }
       where
         finishes : Finishes Ends (zero_number ∷ []) (next (λ x. if_fits (fits_in large count large.items) code.TooLong x (argument_of large true e q x)))
         finishes = finishes_next_take Ends (λ x. if_fits (fits_in large count large.items) code.TooLong x (argument_of large true e q x)) zero_number [] (pure _)
@@ -316,8 +316,8 @@ module _ (small large : Limits) (wide : Wider small large) where
     ready_arguments = ready_bind Any Any (mark m.Less ∷ []) (zero_number ∷ mark m.Greater ∷ []) (expect m.Less) (expect m.Less) _ _ (λ rest f. tt) (ready_expect Any m.Less)
         (λ o. ready_bind Any Ends (zero_number ∷ []) (mark m.Greater ∷ []) (argument small room d p 0) (argument large true e q 0) _ _ (λ rest f. (refl, refl, refl)) (ready_argument 0)
         (λ x. ready_bind Any Closes [] (mark m.Greater ∷ []) (turns (sees m.Comma) (argument_more small room d p) small.turns (x.0 ∷ [], x.1)) (turns (sees m.Comma) (argument_more large true e q) large.turns (x.0 ∷ [], x.1)) _ _
-          (λ rest f. ((refl, refl, refl), refl))
-          (ready_turns Closes Ends (sees m.Comma) (argument_more small room d p) (argument_more large true e q) small.turns large.turns (x.0 ∷ [], x.1) wide.turns (λ y c. c.0) (λ y c. c.1) viable_argument_more)
+        (λ rest f. ((refl, refl, refl), refl))
+        (ready_turns Closes Ends (sees m.Comma) (argument_more small room d p) (argument_more large true e q) small.turns large.turns (x.0 ∷ [], x.1) wide.turns (λ y c. c.0) (λ y c. c.1) viable_argument_more)
         (λ list. ready_last Any (mark m.Greater ∷ []) (expect m.Greater) (expect m.Greater) (λ end. (list, end)) (ready_expect Any m.Greater))))
 
     viable_name_rest : (id : Identifier) → Viable Ends (name_rest small room d p id) (name_rest large true e q id)

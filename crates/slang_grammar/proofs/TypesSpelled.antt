@@ -4,19 +4,16 @@ use Rattle.std.specs.Prelude.{nat_le, nat_lt}
 use Rattle.slang_tree.specs.declared.places.Place.{Place}
 use Rattle.slang_tree.specs.declared.codes.ModuleCode.TheVariants as code
 use Rattle.slang_tree.specs.declared.types.Identifier.{Identifier}
-use Rattle.slang_tree.specs.declared.types.Builtin.{Builtin}
 use Rattle.slang_tree.specs.declared.types.Resource.{Resource}
-use Rattle.slang_tree.specs.declared.types.TypeTree.{TypeTree}
 use Rattle.slang_tree.specs.declared.types.TypeNode.TheVariants as n
 use Rattle.slang_tree.specs.declared.types.GenericArgument.{GenericArgument}
-use Rattle.slang_tree.specs.declared.types.GenericArgument.TheVariants as g
 use Rattle.slang_tokens.specs.declared.tokens.Kind.{Kind}
 use Rattle.slang_tokens.specs.declared.tokens.Kind.TheVariants as k
 use Rattle.slang_tokens.specs.declared.tokens.Mark.TheVariants as m
 use Rattle.slang_tokens.specs.declared.tokens.Word.{Word}
 use Rattle.slang_tokens.specs.declared.tokens.Word.TheVariants as w
 use Rattle.slang_reading.specs.Lexed.{Lexed}
-use Rattle.slang_reading.specs.Reading.{Parser, Choice, Leave, Take, Refuse, first, if_fits, ◌>>=◌, pure, next, turns}
+use Rattle.slang_reading.specs.Reading.{Parser, Choice, Leave, Take, first, pure, turns}
 use Rattle.slang_reading.specs.Kinds.{sees, span}
 use Rattle.slang_reading.proofs.Marks.{sees_some}
 use Rattle.slang_reading.proofs.Exact.{Post, PostChoice, post_bind, post_next, post_fits, post_turns}
@@ -24,8 +21,8 @@ use Rattle.slang_grammar.specs.Tables.{builtin_of, resource_of}
 use Rattle.slang_grammar.specs.Standing.{Stands, NameStands}
 use Rattle.slang_grammar.specs.Types as t
 use Rattle.slang_grammar.specs.Types.{typed, TypeAt, TypeNameAt, ProjectionsAt, ArgumentsAt, MoreArgumentsAt, ArgumentAt}
-use Rattle.slang_grammar.specs.Descent.{Limits, fits_in, expect, name, identifier, if_short, bracketed}
-use Rattle.slang_grammar.specs.TypesDescent.{Type_, Argument, Arguments, WordUse, IsBuiltin, IsResource, IsThis, IsOther, other_use, resource_use, builtin_use, use_of, type_argument, begins_type, word_argument, argument_by, argument_of, argument, argument_more, arguments, name_rest_by, name_rest, resource_rest, node, type_word, type_by, type_of, type_name, project_rest, project_by, project, length_rest, length_by, array, type_rest, no_types, types}
+use Rattle.slang_grammar.specs.Descent.{Limits, fits_in, expect, name, identifier, bracketed}
+use Rattle.slang_grammar.specs.TypesDescent.{Type_, Argument, Arguments, WordUse, IsBuiltin, IsResource, IsThis, IsOther, use_of, type_argument, begins_type, word_argument, argument_by, argument_of, argument, argument_more, arguments, name_rest_by, name_rest, resource_rest, node, type_word, type_by, type_of, type_name, project_rest, project_by, project, length_rest, length_by, array, type_rest, no_types, types}
 use Rattle.slang_grammar.proofs.Shared.{stands, name_stands, IsMarkAt, post_expect, IsNameAt, post_name, IsTermAt, post_bracketed}
 
 -- ---- what a word begins
@@ -161,7 +158,7 @@ module _ (ts : List Lexed) (limits : Limits) (room : Bool) (d : ℕ) (inner : Pa
       (λ p mid seen1 o. post_bind ts (λ x to. TypeAt ts x.0 mid to) (IsTypeNameAt at) inner _ mid seen1 (h mid seen1)
       (λ x mid2 seen2 u. post_bind ts (IsMarkAt ts m.Greater mid2) (IsTypeNameAt at) (expect m.Greater) _ mid2 seen2 (post_expect ts m.Greater mid2 seen2)
       (λ end to seen3 v. subst (λ to. TypeNameAt ts (typed (span begin end) (n.Resource r x.0)) at to) (sym v.1)
-        (t.resource s q o.0 (subst (λ n. TypeAt ts x.0 n mid2) o.1 u) v.0))))
+      (t.resource s q o.0 (subst (λ n. TypeAt ts x.0 n mid2) o.1 u) v.0))))
 
   post_node : (at : ℕ) (tok : Lexed) (c : Choice Type_) → PostChoice ts (IsTypeNameAt at) at (Some tok) c → PostChoice ts (IsTypeNameAt at) at (Some tok) (node limits room d inner tok c)
   post_node at tok c p = post_fits ts (IsTypeNameAt at) at (Some tok) room code.TooNested c (λ f. p)
@@ -228,7 +225,7 @@ module _ (ts : List Lexed) (limits : Limits) (d : ℕ) where
       rest tok e q seen1 = post_bind ts (IsTermAt ts (at + 1)) (λ y to. TypeAt ts y.0 from to) (bracketed limits) _ (at + 1) seen1 (post_bracketed ts limits (at + 1) seen1)
           (λ l mid2 seen2 u. post_bind ts (IsMarkAt ts m.CloseBracket mid2) (λ y to. TypeAt ts y.0 from to) (expect m.CloseBracket) _ mid2 seen2 (post_expect ts m.CloseBracket mid2 seen2)
           (λ end to seen3 v. subst (λ to. TypeAt ts (typed (span x.0.place end) (n.Array x.0 l)) from to) (sym (v.1 ∙ ap (λ n. n + 1) u.1))
-            (t.array s r (stands ts at tok (k.Mark m.OpenBracket) e q) u.0 (subst (λ n. Stands ts n (k.Mark m.CloseBracket) end) u.1 v.0))))
+          (t.array s r (stands ts at tok (k.Mark m.OpenBracket) e q) u.0 (subst (λ n. Stands ts n (k.Mark m.CloseBracket) end) u.1 v.0))))
 
       by : (o : Option Lexed) → first (drop at ts) ≡ o → (c : Bool) → sees m.OpenBracket o ≡ c → PostChoice ts (λ y to. TypeAt ts y.0 from to) at o (length_by limits d x o c)
       by (Some tok) e true q = let u = sees_some m.OpenBracket (Some tok) q in

@@ -1,5 +1,5 @@
 -- Which token lies at an index.
-use Rattle.std.specs.Prelude.{◌≡◌, ℕ, false, List, drop, Option, Some}
+use Rattle.std.specs.Prelude.{◌≡◌, ℕ, false, List, drop, Some}
 use Rattle.slang_tree.specs.declared.places.Place.{Place}
 use Rattle.slang_tree.specs.declared.types.Identifier.{Identifier}
 use Rattle.slang_tokens.specs.declared.tokens.Kind.{Kind}

@@ -1,6 +1,6 @@
 -- The descent into types. An answer is a type and how many nodes stand on its longest path; each parser has a number of
 -- nodes that it may put on a path. Where two limits are passed at one token, that of nesting comes first.
-use Rattle.std.specs.Prelude.{ℕ, zero, suc, ◌+◌, max, Bool, true, false, if◌then◌else◌, nat_lt, List, [], ◌∷◌, ◌++◌, length, Option, Some, None}
+use Rattle.std.specs.Prelude.{ℕ, zero, suc, ◌+◌, max, Bool, true, false, nat_lt, List, [], ◌∷◌, ◌++◌, length, Option, Some, None}
 use Rattle.slang_tree.specs.declared.places.Place.{Place}
 use Rattle.slang_tree.specs.declared.codes.ModuleCode.TheVariants as code
 use Rattle.slang_tree.specs.declared.types.Identifier.{Identifier}
@@ -17,7 +17,7 @@ use Rattle.slang_tokens.specs.declared.tokens.Word.{Word}
 use Rattle.slang_tokens.specs.declared.tokens.Word.TheVariants as w
 use Rattle.slang_reading.specs.Lexed.{Lexed}
 use Rattle.slang_reading.specs.Reading.{Parser, Choice, Leave, Take, Refuse, if_fits, ◌>>=◌, ◌>>◌, pure, past, place_of, next, turns}
-use Rattle.slang_reading.specs.Kinds.{is_mark, sees, span}
+use Rattle.slang_reading.specs.Kinds.{sees, span}
 use Rattle.slang_grammar.specs.Tables.{builtin_of, resource_of}
 use Rattle.slang_grammar.specs.Types.{typed}
 use Rattle.slang_grammar.specs.Descent.{Limits, fits_in, expect, name, identifier, if_short, bracketed}
