@@ -3,7 +3,7 @@ use Rattle.std.proofs.Common.{Bool, true, false, ◌≡◌, ℕ, zero, suc, ◌+
 use Rattle.slang_tree.specs.declared.codes.ModuleCode.{ModuleCode}
 use Rattle.slang_tree.specs.declared.codes.ModuleCode.TheVariants as code
 use Rattle.slang_reading.specs.Lexed.{Lexed}
-use Rattle.slang_reading.specs.Reading.{Outcome, Done, Stop, Past, Parser, and_then, bind, ◌>>=◌, pure, first, Choice, Leave, Take, Refuse, Pass, place_of, chosen, next, if_fits, tried, attempt, turn, turns}
+use Rattle.slang_reading.specs.Reading.{Outcome, Done, Stop, Past, Parser, and_then, bind, ◌>>=◌, pure, first, Choice, Leave, Take, Refuse, Pass, place_of, chosen, next, if_fits, tried, attempt, foreseen, foresee, turn, turns}
 use Rattle.slang_reading.proofs.Viable.{IsPast}
 
 -- where it answers, P holds of the answer and the index after it
@@ -221,6 +221,41 @@ module _ (ts : List Lexed) {A B : Type 0} (q : Parser B) (f : Option B → Parse
   reads_attempt_none E P a to h never x k = record { is = go (q ts at seen) h x }
     where
       go : (o : Outcome B) → Post P o → (IsPast o → E) → Meets E a to (tried o f ts at)
+      go (Done b mid seen1) p x = absurd (never b mid p)
+      go (Stop seen1) p x = (k seen1).is
+      go (Past code place seen1) p x = x tt
+
+-- ---- what is looked at ahead
+
+module _ (ts : List Lexed) {A B : Type 0} (q : Parser B) (f : Bool → Parser A) (at seen : ℕ) where
+  pub post_foresee : (Q : A → ℕ → Type 0) → ((b : B) (mid seen1 : ℕ) → q ts at seen ≡ Done b mid seen1 → Post Q (f true ts at seen1)) →
+      (((b : B) (mid seen1 : ℕ) → q ts at seen ≡ Done b mid seen1 → ⊥) → (seen1 : ℕ) → Post Q (f false ts at seen1)) → Post Q (foresee q f ts at seen)
+  unfolding foresee
+  post_foresee Q some none = go (q ts at seen) refl
+    where
+      differ : (seen2 : ℕ) → q ts at seen ≡ Stop seen2 → (b : B) (mid seen1 : ℕ) → q ts at seen ≡ Done b mid seen1 → ⊥
+      differ seen2 e b mid seen1 d = let c = sym e ∙ d in cc
+
+      go : (o : Outcome B) → q ts at seen ≡ o → Post Q (foreseen o f ts at)
+      go (Done b mid seen1) e = some b mid seen1 e
+      go (Stop seen1) e = none (differ seen1 e) seen1
+      go (Past code place seen1) e = tt
+
+  pub reads_foresee_yes : (E : Type 0) (b : B) (a : A) (mid to : ℕ) → Reads E q ts at seen b mid → ((seen1 : ℕ) → Reads E (f true) ts at seen1 a to) → Reads E (foresee q f) ts at seen a to
+  unfolding foresee
+  reads_foresee_yes E b a mid to r k = record { is = go (q ts at seen) r.is }
+    where
+      go : (o : Outcome B) → Meets E b mid o → Meets E a to (foreseen o f ts at)
+      go (Done c at1 seen1) m = (k seen1).is
+      go (Stop seen1) m = absurd m
+      go (Past code place seen1) m = m
+
+  pub reads_foresee_no : (E : Type 0) (P : B → ℕ → Type 0) (a : A) (to : ℕ) → Post P (q ts at seen) → ((b : B) (mid : ℕ) → P b mid → ⊥) → (IsPast (q ts at seen) → E) →
+      ((seen1 : ℕ) → Reads E (f false) ts at seen1 a to) → Reads E (foresee q f) ts at seen a to
+  unfolding foresee
+  reads_foresee_no E P a to h never x k = record { is = go (q ts at seen) h x }
+    where
+      go : (o : Outcome B) → Post P o → (IsPast o → E) → Meets E a to (foreseen o f ts at)
       go (Done b mid seen1) p x = absurd (never b mid p)
       go (Stop seen1) p x = (k seen1).is
       go (Past code place seen1) p x = x tt

@@ -5,7 +5,7 @@ use Rattle.slang_tree.specs.declared.places.Place.{Place}
 use Rattle.slang_tree.specs.declared.codes.ModuleCode.{ModuleCode}
 use Rattle.slang_tree.specs.declared.codes.ModuleCode.TheVariants as code
 use Rattle.slang_reading.specs.Lexed.{Lexed}
-use Rattle.slang_reading.specs.Reading.{Outcome, Done, Stop, Past, Parser, and_then, bind, ◌>>=◌, pure, refuse, past, first, Choice, Leave, Take, Refuse, Pass, place_of, chosen, next, if_fits, tried, attempt, turn, turns}
+use Rattle.slang_reading.specs.Reading.{Outcome, Done, Stop, Past, Parser, and_then, bind, ◌>>=◌, pure, refuse, past, first, Choice, Leave, Take, Refuse, Pass, place_of, chosen, next, if_fits, tried, attempt, foreseen, foresee, turn, turns}
 
 -- the tokens agree on the first k; the end counts as a token
 pub record Same (k : ℕ) (ts us : List Lexed) : Type 0 where
@@ -197,6 +197,39 @@ module _ {A B : Type 0} (f : Option B → Parser A) (hf : (b : Option B) → Tam
     local = λ ts us at seen s.
         let same = hq.local ts us at seen (same_less _ _ ts us (tried_seen ts at (q ts at seen)) s) in
         ap (λ o. tried o f us at) same ∙ tried_local ts us at (q ts at seen) s;
+  }
+
+-- ---- a part that is looked at ahead
+
+module _ {A B : Type 0} (f : Bool → Parser A) (hf : (b : Bool) → Tame (f b)) where
+  foreseen_rises : (ts : List Lexed) (at seen : ℕ) (o : Outcome B) → Rises at seen o → Rises at seen (foreseen o f ts at)
+  foreseen_rises ts at seen (Done b at1 seen1) h = rises_from at seen at seen1 (f true ts at seen1) (omega arith) h.1 ((hf true).rises ts at seen1)
+  foreseen_rises ts at seen (Stop seen1) h = rises_from at seen at seen1 (f false ts at seen1) (omega arith) h ((hf false).rises ts at seen1)
+  foreseen_rises ts at seen (Past code place seen1) h = h
+
+  foreseen_bounded : (ts : List Lexed) (at : ℕ) (o : Outcome B) → at ≤ length ts → Bounded (length ts) o → Bounded (length ts) (foreseen o f ts at)
+  foreseen_bounded ts at (Done b at1 seen1) a h = (hf true).bounded ts at seen1 a h.1
+  foreseen_bounded ts at (Stop seen1) a h = (hf false).bounded ts at seen1 a h
+  foreseen_bounded ts at (Past code place seen1) a h = h
+
+  foreseen_seen : (ts : List Lexed) (at : ℕ) (o : Outcome B) → seen_of o ≤ seen_of (foreseen o f ts at)
+  foreseen_seen ts at (Done b at1 seen1) = seen_rises at seen1 (f true ts at seen1) ((hf true).rises ts at seen1)
+  foreseen_seen ts at (Stop seen1) = seen_rises at seen1 (f false ts at seen1) ((hf false).rises ts at seen1)
+  foreseen_seen ts at (Past code place seen1) = omega arith
+
+  foreseen_local : (ts us : List Lexed) (at : ℕ) (o : Outcome B) → Same (seen_of (foreseen o f ts at)) ts us → foreseen o f us at ≡ foreseen o f ts at
+  foreseen_local ts us at (Done b at1 seen1) s = (hf true).local ts us at seen1 s
+  foreseen_local ts us at (Stop seen1) s = (hf false).local ts us at seen1 s
+  foreseen_local ts us at (Past code place seen1) s = refl
+
+  pub tame_foresee : (q : Parser B) → Tame q → Tame (foresee q f)
+  unfolding foresee
+  tame_foresee q hq = record {
+    rises = λ ts at seen. foreseen_rises ts at seen (q ts at seen) (hq.rises ts at seen);
+    bounded = λ ts at seen h k. foreseen_bounded ts at (q ts at seen) h (hq.bounded ts at seen h k);
+    local = λ ts us at seen s.
+        let same = hq.local ts us at seen (same_less _ _ ts us (foreseen_seen ts at (q ts at seen)) s) in
+        ap (λ o. foreseen o f us at) same ∙ foreseen_local ts us at (q ts at seen) s;
   }
 
 -- ---- turns

@@ -96,6 +96,15 @@ tried (Past code place seen) f ts back = Past code place seen
 unfoldable pub attempt : {A B : Type 0} → Parser B → (Option B → Parser A) → Parser A
 attempt q f = λ ts at seen. tried (q ts at seen) f ts at
 
+-- Looks ahead whether q reads something here, and goes on from here either way.
+abbrev pub foreseen : {A B : Type 0} → Outcome B → (Bool → Parser A) → List Lexed → ℕ → Outcome A
+foreseen (Done b at seen) f ts back = f true ts back seen
+foreseen (Stop seen) f ts back = f false ts back seen
+foreseen (Past code place seen) f ts back = Past code place seen
+
+unfoldable pub foresee : {A B : Type 0} → Parser B → (Bool → Parser A) → Parser A
+foresee q f = λ ts at seen. foreseen (q ts at seen) f ts at
+
 -- While the next token goes on, more; at most n times. Each turn takes a token, so no text within its limit has so many.
 abbrev pub turn : {A : Type 0} → Bool → Choice A → A → Choice A
 turn true again a = again
