@@ -1,5 +1,5 @@
 -- Marks and words are told apart by their numbers.
-use Rattle.std.proofs.Common.{Bool, true, false, ◌≡◌, ℕ, List, drop, Option, Some, None, refl, sym, ◌∙◌, ap, eqb-true, eq-eqb, ◌==◌, if◌then◌else◌}
+use Rattle.std.proofs.Common.{true, ◌≡◌, ℕ, Option, Some, None, refl, sym, ◌∙◌, ap, eqb-true, eq-eqb, ◌==◌, if◌then◌else◌}
 use Rattle.slang_tokens.specs.declared.tokens.Kind.{Kind}
 use Rattle.slang_tokens.specs.declared.tokens.Kind.TheVariants as k
 use Rattle.slang_tokens.specs.declared.tokens.Mark.{Mark}
@@ -7,8 +7,7 @@ use Rattle.slang_tokens.specs.declared.tokens.Mark.TheVariants as m
 use Rattle.slang_tokens.specs.declared.tokens.Word.{Word}
 use Rattle.slang_tokens.specs.declared.tokens.Word.TheVariants as w
 use Rattle.slang_reading.specs.Lexed.{Lexed}
-use Rattle.slang_reading.specs.Reading.{first}
-use Rattle.slang_reading.specs.Kinds.{mark_code, word_code, is_mark, is_word, sees, sees_word}
+use Rattle.slang_reading.specs.Kinds.{mark_code, word_code, is_mark, is_word, sees}
 
 mark_of : ℕ → Mark
 mark_of n =
