@@ -1,3 +1,4 @@
 pub mod Codes
 pub mod FormCodes
 pub mod Letters
+pub mod Nesting

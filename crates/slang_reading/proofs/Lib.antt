@@ -1,0 +1,7 @@
+pub mod Lexing
+pub mod Tame
+pub mod Viable
+pub mod Exact
+pub mod Loops
+pub mod Wrong
+pub mod Marks

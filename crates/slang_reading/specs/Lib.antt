@@ -1,0 +1,5 @@
+pub mod Lexed
+pub mod Reading
+pub mod Kinds
+pub mod Cursor
+pub mod Inside

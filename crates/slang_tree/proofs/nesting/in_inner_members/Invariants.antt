@@ -1,0 +1,6 @@
+use Rattle.std.proofs.Common.{◌≡◌, map, drop}
+use Rattle.slang_tree.specs.Nesting.{deep_inner_member, first_of}
+use Rattle.slang_tree.proofs.nesting.in_inner_members.Given as goal
+
+abbrev pub invariant-loop-item : goal.invariant-loop-item
+invariant-loop-item l = first_of (map deep_inner_member l.list) l.around ≡ first_of (map deep_inner_member (drop l.item-index l.list)) l.around
