@@ -1,12 +1,12 @@
 -- What each instruction does, where it is known what its operands stand for.
-use Rattle.std.proofs.Common.{◌≡◌, ◌≢◌, ◌⊎◌, ℕ, ◌+◌, ◌*◌, ◌/◌, true, false, ◌&&◌, cond, List, [], ◌∷◌, Option, Some, refl, ap, ◌∙◌, arith}
+use Rattle.std.proofs.Common.{◌≡◌, ◌≢◌, ◌⊎◌, ℕ, ◌+◌, ◌*◌, true, false, ◌&&◌, cond, List, [], ◌∷◌, Option, Some, refl, ap, ◌∙◌, arith}
 use Rattle.std.specs.Prelude.{nat_lt, nat_eq}
 use Rattle.std.proofs.Math.Nat.{mul-div_cancel, mul-div_cancel_left}
 use Rattle.std.proofs.lemmas.Bool.{ne_eqb, eq-eqb}
 use Rattle.behavior.specs.Values.{Value, Word, Found, Outside, part}
 use Rattle.behavior.specs.Operations.{word_add, is_negative}
 use Rattle.spirv_words.specs.declared.opcodes.Op.TheVariants.{Load, Store, AccessChain, IAdd}
-use Rattle.spirv_words.specs.Machine.{Shape, Words, Unbounded, Fields, NoField, Field, Local, Input, Plain, Path, Block, Cell, at}
+use Rattle.spirv_words.specs.Machine.{Shape, Words, Unbounded, Fields, NoField, Field, Local, Input, Operand, Plain, Path, InBuffer, at}
 use Rattle.spirv_words.specs.Step.{State, Setting, Turn, Goes, Writes, IsUndefined, with_some, with_word, with_found, with_spot, spot, within, Byte, Beyond, put, load, store, chain, binary, act, gives, next}
 
 -- ---- maps
@@ -34,6 +34,10 @@ stored s l x v = record { place = s.place + 1; ids = s.ids; below = s.below; mem
 abbrev pub row : Shape
 row = Fields (Field 0 (Unbounded 4 (Words false)) NoField)
 
+-- a pointer to a word of the one buffer
+abbrev pub word_at : ℕ → Operand
+word_at n = InBuffer 0 0 (n * 4) (Words false)
+
 module _ (m : Setting) (s : State) where
   -- ---- Load and Store
 
@@ -49,9 +53,11 @@ module _ (m : Setting) (s : State) where
   pub store_acts : (p v l x : ℕ) (w : Value) → s.ids p ≡ Some (Path (Local l x) []) → s.ids v ≡ Some (Plain w) → act m Store (p ∷ v ∷ []) s ≡ Goes (stored s l x w)
   store_acts p v l x w h e = ap (λ o. store m s o (s.ids v)) h ∙ ap (λ o. store m s (Some (Path (Local l x) [])) o) e
 
-  -- to a word of a buffer
-  pub store_writes : (p v set binding index w : ℕ) → s.ids p ≡ Some (Cell set binding index) → s.ids v ≡ Some (Plain (Word w)) → act m Store (p ∷ v ∷ []) s ≡ Writes set binding index w (next s)
-  store_writes p v set binding index w h e = ap (λ o. store m s o (s.ids v)) h ∙ ap (λ o. store m s (Some (Cell set binding index)) o) e
+  -- to a word of the buffer
+  pub store_writes : (p v n w : ℕ) → s.ids p ≡ Some (word_at n) → s.ids v ≡ Some (Plain (Word w)) → act m Store (p ∷ v ∷ []) s ≡ Writes 0 0 n w (next s)
+  store_writes p v n w h e =
+      ap (λ o. store m s o (s.ids v)) h ∙ ap (λ o. store m s (Some (word_at n)) o) e
+      ∙ ap (λ k. Writes 0 0 k w (next s)) (mul-div_cancel n {n = 4} (omega arith))
 
   -- ---- AccessChain, whose indices hold no int
 
@@ -74,25 +80,25 @@ module _ (m : Setting) (s : State) where
   chain_undefined t r p i l x k h e u f = chain_part t r p i l x k h e u ∙ ap (λ o. with_found o (λ w. Goes (gives s r (Path (Local l x) (k ∷ []))))) f
 
   -- the byte of a word of the buffer, where the buffer has this word
-  chain_spot : (t r p z i n : ℕ) → s.ids p ≡ Some (Block 0 0 row) → s.ids z ≡ Some (Plain (Word 0)) → m.signed z ≡ false → s.ids i ≡ Some (Plain (Word n)) → m.signed i ≡ false → act m AccessChain (t ∷ r ∷ p ∷ z ∷ i ∷ []) s ≡ with_spot (within n (m.lengths 0 0) (Byte (0 + 0 + n * 4))) (λ j. Goes (gives s r (Cell 0 0 j)))
+  chain_spot : (t r p z i n : ℕ) → s.ids p ≡ Some (InBuffer 0 0 0 row) → s.ids z ≡ Some (Plain (Word 0)) → m.signed z ≡ false → s.ids i ≡ Some (Plain (Word n)) → m.signed i ≡ false → act m AccessChain (t ∷ r ∷ p ∷ z ∷ i ∷ []) s ≡ with_spot (within n (m.lengths 0 0) (Byte (0 + 0 + n * 4) (Words false))) (λ j of. Goes (gives s r (InBuffer 0 0 j of)))
   chain_spot t r p z i n h e u f v =
-      let at_spot : List ℕ → Turn = λ ws. with_spot (spot (m.lengths 0 0) row ws 0) (λ j. Goes (gives s r (Cell 0 0 j))) in
+      let at_spot : List ℕ → Turn = λ ws. with_spot (spot (m.lengths 0 0) row ws 0) (λ j of. Goes (gives s r (InBuffer 0 0 j of))) in
       ap (λ o. chain m s r o (z ∷ i ∷ [])) h
       ∙ index_taken z 0 (λ a. with_word (s.ids i) (λ b. cond (m.signed i && is_negative b) IsUndefined (at_spot (a ∷ b ∷ [])))) e u
       ∙ index_taken i n (λ b. at_spot (0 ∷ b ∷ [])) f v
-      ∙ ap (λ k. with_spot (within n k (Byte (0 + 0 + n * 4))) (λ j. Goes (gives s r (Cell 0 0 j)))) (mul-div_cancel_left (m.lengths 0 0) {n = 4} (omega arith))
+      ∙ ap (λ k. with_spot (within n k (Byte (0 + 0 + n * 4) (Words false))) (λ j of. Goes (gives s r (InBuffer 0 0 j of)))) (mul-div_cancel_left (m.lengths 0 0) {n = 4} (omega arith))
 
   -- a pointer to a word of the buffer
-  pub chain_cell : (t r p z i n : ℕ) → s.ids p ≡ Some (Block 0 0 row) → s.ids z ≡ Some (Plain (Word 0)) → m.signed z ≡ false → s.ids i ≡ Some (Plain (Word n)) → m.signed i ≡ false → nat_lt n (m.lengths 0 0) ≡ true → act m AccessChain (t ∷ r ∷ p ∷ z ∷ i ∷ []) s ≡ Goes (gives s r (Cell 0 0 n))
+  pub chain_cell : (t r p z i n : ℕ) → s.ids p ≡ Some (InBuffer 0 0 0 row) → s.ids z ≡ Some (Plain (Word 0)) → m.signed z ≡ false → s.ids i ≡ Some (Plain (Word n)) → m.signed i ≡ false → nat_lt n (m.lengths 0 0) ≡ true → act m AccessChain (t ∷ r ∷ p ∷ z ∷ i ∷ []) s ≡ Goes (gives s r (word_at n))
   chain_cell t r p z i n h e u f v lt =
       chain_spot t r p z i n h e u f v
-      ∙ ap (λ b. with_spot (cond b (Byte (0 + 0 + n * 4)) Beyond) (λ j. Goes (gives s r (Cell 0 0 j)))) lt
-      ∙ ap (λ j. Goes (gives s r (Cell 0 0 j))) (ap (λ k. k / 4) (omega arith) ∙ mul-div_cancel n {n = 4} (omega arith))
+      ∙ ap (λ b. with_spot (cond b (Byte (0 + 0 + n * 4) (Words false)) Beyond) (λ j of. Goes (gives s r (InBuffer 0 0 j of)))) lt
+      ∙ ap (λ j. Goes (gives s r (InBuffer 0 0 j (Words false)))) (omega arith)
 
-  pub chain_beyond : (t r p z i n : ℕ) → s.ids p ≡ Some (Block 0 0 row) → s.ids z ≡ Some (Plain (Word 0)) → m.signed z ≡ false → s.ids i ≡ Some (Plain (Word n)) → m.signed i ≡ false → nat_lt n (m.lengths 0 0) ≡ false → act m AccessChain (t ∷ r ∷ p ∷ z ∷ i ∷ []) s ≡ IsUndefined
+  pub chain_beyond : (t r p z i n : ℕ) → s.ids p ≡ Some (InBuffer 0 0 0 row) → s.ids z ≡ Some (Plain (Word 0)) → m.signed z ≡ false → s.ids i ≡ Some (Plain (Word n)) → m.signed i ≡ false → nat_lt n (m.lengths 0 0) ≡ false → act m AccessChain (t ∷ r ∷ p ∷ z ∷ i ∷ []) s ≡ IsUndefined
   chain_beyond t r p z i n h e u f v ge =
       chain_spot t r p z i n h e u f v
-      ∙ ap (λ b. with_spot (cond b (Byte (0 + 0 + n * 4)) Beyond) (λ j. Goes (gives s r (Cell 0 0 j)))) ge
+      ∙ ap (λ b. with_spot (cond b (Byte (0 + 0 + n * 4) (Words false)) Beyond) (λ j of. Goes (gives s r (InBuffer 0 0 j of)))) ge
 
   -- ---- operators
 

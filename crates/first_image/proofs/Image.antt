@@ -6,7 +6,7 @@ use Rattle.behavior.specs.Values.{Word}
 use Rattle.behavior.specs.Meanings.{Ids}
 use Rattle.spirv_words.specs.declared.opcodes.Op.TheVariants.{TypeRuntimeArray, TypeStruct, TypePointer, TypeFunction, Constant, Variable, Function, Return, FunctionEnd}
 use Rattle.spirv_words.specs.declared.images.Instruction.{Instruction}
-use Rattle.spirv_words.specs.Machine.{Words, Unbounded, Fields, NoField, Field, PointerTo, Input, Plain, Path, Block, if_some, or_zero, IsType, IsValue, on_shape, global_variable, Globals, declared, decoration, offset, result_of, place_of, definition_of}
+use Rattle.spirv_words.specs.Machine.{Words, Unbounded, Fields, NoField, Field, PointerTo, Input, Plain, Path, InBuffer, if_some, or_zero, IsType, IsValue, on_shape, global_variable, Globals, declared, decoration, offset, result_of, place_of, definition_of}
 use Rattle.spirv_words.specs.Runs.{undeclared, setting, start_place}
 use Rattle.first_form.specs.declared.shader.Shader.{Shader}
 use Rattle.first_image.specs.Templates.{ins, Piece, statements_code}
@@ -210,17 +210,17 @@ module _ (home : List ℕ) (p : Shader) where
       (shape_before code before rest i (n + 15) a body.id constant_globals refl refl refl after_constants_numbered (a + 1) row (omega arith) wrapper_found))
 
   -- the buffer's variable
-  pub buffer_found : globals.ids b ≡ Some (Block 0 0 row)
+  pub buffer_found : globals.ids b ≡ Some (InBuffer 0 0 0 row)
   buffer_found =
       let before = buffer_types a ++ (pointer_types n ++ (more_types a n ++ nulls k)) in
       let rest = ins Variable ((n + 13) ∷ (b + 1) ∷ 1 ∷ []) ∷ entry_code p in
       let i = ins Variable ((n + 15) ∷ b ∷ 12 ∷ []) in
       ap (λ g. g.ids b) globals_are
-      ∙ found_id code before rest i b a body.id constant_globals refl refl refl after_constants_numbered (Block 0 0 row)
+      ∙ found_id code before rest i b a body.id constant_globals refl refl refl after_constants_numbered (InBuffer 0 0 0 row)
       (ap (λ o. global_variable code b 12 o)
       (shape_before code before rest i b a body.id constant_globals refl refl refl after_constants_numbered (n + 15) (PointerTo row) (omega arith) pointer_found)
-      ∙ ap (λ o. IsValue (Block (or_zero o) (or_zero (decoration code b 33)) row)) set_found
-      ∙ ap (λ o. IsValue (Block 0 (or_zero o) row)) binding_found)
+      ∙ ap (λ o. IsValue (InBuffer (or_zero o) (or_zero (decoration code b 33)) 0 row)) set_found
+      ∙ ap (λ o. IsValue (InBuffer 0 (or_zero o) 0 row)) binding_found)
 
   -- the variable of the invocation's global id
   pub input_found : globals.ids (b + 1) ≡ Some (Path (Input 28) [])

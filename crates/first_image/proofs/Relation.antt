@@ -6,7 +6,7 @@ use Rattle.behavior.specs.Meanings.{Write}
 use Rattle.behavior.specs.Running.{World, Result, Flow, Next, Broke, Continued, Returned, and_event}
 use Rattle.spirv_words.specs.declared.opcodes.Op.TheVariants.{Label, Return, ReturnValue}
 use Rattle.spirv_words.specs.declared.images.Instruction.{Instruction}
-use Rattle.spirv_words.specs.Machine.{Words, Local, Operand, Plain, Path, Block, result_of, type_of, place_of, definition_of}
+use Rattle.spirv_words.specs.Machine.{Words, Local, Operand, Plain, Path, InBuffer, result_of, type_of, place_of, definition_of}
 use Rattle.spirv_words.specs.Step.{State, Setting, Goes, Writes, act, gives, next}
 use Rattle.spirv_words.specs.Runs.{signed}
 use Rattle.first_image.specs.Templates.{ins, Tables, Code, Piece}
@@ -55,7 +55,7 @@ pub record IsLinked (m : Setting) (t : Tables) (used : ℕ → Bool) : Type 0 wh
 -- what stands for the ids of the tables when a body begins, and where its locals and temporaries lie
 pub record IsReady (c : Context) : Type 0 where
   pub linked : IsLinked c.m c.t c.used
-  pub buffer : c.ids c.t.buffer ≡ Some (Block 0 0 row)
+  pub buffer : c.ids c.t.buffer ≡ Some (InBuffer 0 0 0 row)
   pub buffer_low : c.t.buffer < c.base
   pub constant : (n : ℕ) → c.used n ≡ true → c.ids (c.t.constant n) ≡ Some (Plain (Word n))
   pub constant_low : (n : ℕ) → c.used n ≡ true → c.t.constant n < c.base

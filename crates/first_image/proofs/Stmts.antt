@@ -5,13 +5,13 @@ use Rattle.behavior.specs.Values.{Value}
 use Rattle.behavior.specs.Meanings.{Write, Undefined}
 use Rattle.behavior.specs.Running.{World, Result, Went, Ends, Flow, Next, Broke, Continued, Returned, then_next, and_event, on_word, choose}
 use Rattle.spirv_words.specs.declared.opcodes.Op.TheVariants.{AccessChain, Store}
-use Rattle.spirv_words.specs.Machine.{Plain, Cell}
+use Rattle.spirv_words.specs.Machine.{Plain}
 use Rattle.spirv_words.specs.Step.{State, gives, next}
 use Rattle.first_form.specs.declared.shader.Statement.{Statement}
 use Rattle.first_image.specs.Source.{sum_means, write_means, statement_means, statements_mean}
 use Rattle.first_image.specs.Templates.{ins, Code, Piece, pair_code, sum_code, write_code, statement_code, sequence_code, statements_code}
 use Rattle.first_image.proofs.Standing.{has_front, has_back}
-use Rattle.first_image.proofs.Acts.{at_same, at_other, store_writes, chain_cell, chain_beyond}
+use Rattle.first_image.proofs.Acts.{word_at, at_same, at_other, store_writes, chain_cell, chain_beyond}
 use Rattle.first_image.proofs.Comes.{Follows, over_on, follows_on, word_follows, choose_follows, is_undefined}
 use Rattle.first_image.proofs.Relation.{Context, IsReady, Reaches, Arrives, ExprRuns, Exits, Lands, StmtRuns, reaches_here, begins_on, reaches_on, reaches_at, here, result_reaches, write_reaches}
 use Rattle.first_image.proofs.Exprs.{SumUsed, pair_follows, pair_more_ids, pair_more_temps, constant_known, not_signed, sum_runs}
@@ -89,11 +89,11 @@ module _ (c : Context) (ready : IsReady c) where
         let index = g.has_left ∙ ap (λ v. Some (Plain v)) is_n in
         choose_follows c.m s w P (nat_lt n (c.m.lengths 0 0)) (Went Next l2 (and_event w2 (Write 0 0 n m))) (Ends w2.events Undefined)
         (λ lt.
-        let o = Cell 0 0 n in
+        let o = word_at n in
         let cell = result_reaches c chain q.id o g.there h.0 g.more (omega (arith, g.more, from.low)) (chain_cell c.m g.to c.t.cell_pointer q.id c.t.buffer (c.t.constant 0) q.left n buffer nought zero_unsigned index unsigned lt) in
         let s1 = gives g.to q.id o in
         let value = at_other g.to.ids q.id o q.right (λ e. absurd (omega (arith, g.low))) ∙ g.has_right ∙ ap (λ v. Some (Plain v)) is_m in
-        record { to = next s1; there = reaches_at c place (write_reaches c _ 0 0 n m cell h.1.0 (store_writes c.m s1 q.id q.right 0 0 n m (at_same g.to.ids q.id o) value)) })
+        record { to = next s1; there = reaches_at c place (write_reaches c _ 0 0 n m cell h.1.0 (store_writes c.m s1 q.id q.right n m (at_same g.to.ids q.id o) value)) })
         (λ ge. over_on c.m s g.to w w2 w2.events Undefined g.there.comes (is_undefined c.m g.to w2 chain (here c g.there h.0) (chain_beyond c.m g.to c.t.cell_pointer q.id c.t.buffer (c.t.constant 0) q.left n buffer nought zero_unsigned index unsigned ge))))));
   }
 
