@@ -456,10 +456,12 @@ module _ {A B : Type 0} (F G : Option Lexed → Type 0) (q : Parser B) (h : Bool
 
     foresee_grows : Grows (foresee p f) (foresee q h)
     unfolding foresee
-    foresee_grows = record { same = λ ts at seen. elim (hq.grows.same ts at seen) [
-      | inl e ↦ elim (foreseen_grows ts at (p ts at seen)) [ inl s ↦ inl (ap (λ o. foreseen o h ts at) e ∙ s) | inr d ↦ inr d ]
-      | inr d ↦ inr (foreseen_past ts at (p ts at seen) d)
-    ] }
+    foresee_grows = record {
+      same = λ ts at seen. elim (hq.grows.same ts at seen) [
+        | inl e ↦ elim (foreseen_grows ts at (p ts at seen)) [ inl s ↦ inl (ap (λ o. foreseen o h ts at) e ∙ s) | inr d ↦ inr d ]
+        | inr d ↦ inr (foreseen_past ts at (p ts at seen) d)
+      ];
+    }
 
     foresee_part : (ts : List Lexed) (at seen : ℕ) (o : Outcome B) → q ts at seen ≡ o → ((k : ℕ) → seen_of o ≡ k + 1 → seen ≤ k → Completion G q ts at seen k) →
         (r : Parser A) → ((us : List Lexed) → foreseen o h us at ≡ r us at (seen_of o)) →
