@@ -4,3 +4,4 @@ pub mod TypesSpelled
 pub mod TypesRead
 pub mod TypesReady
 pub mod TypesWrong
+pub mod TypesTall

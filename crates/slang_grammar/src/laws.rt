@@ -5,14 +5,18 @@ ghost use Rattle.slang_tree.specs.declared.types.TypeTree.{TypeTree};
 ghost use Rattle.slang_reading.specs.Lexed.{Lexed};
 ghost use Rattle.slang_reading.specs.Reading.{Done, Stop};
 ghost use Rattle.slang_grammar.specs.Types.{TypeAt, Quiet};
+ghost use Rattle.slang_grammar.specs.Heights.{height};
 ghost use Rattle.slang_grammar.specs.Descent.{Limits};
 ghost use Rattle.slang_grammar.specs.TypesDescent.{types, Type_};
 
-/// Of types: what the descent answers is spelled; it stops nowhere in what is spelled, where nothing stands behind the
-/// type with which it would go on; and where it stops at a token, some type begins with the tokens before it.
+/// Of types: what the descent answers is spelled, and the number beside it is how many nodes stand on its longest path; it
+/// stops nowhere in what is spelled, where nothing stands behind the type with which it would go on; and where it stops
+/// at a token, some type begins with the tokens before it.
 pub fn types_are_read()
     ensures spelled { (ts : List Lexed) (limits : Limits) (d at seen to seen1 : ℕ) (x : Type_)
         → types limits d ts at seen ≡ Done x to seen1 → TypeAt ts x.0 at to }
+    ensures tall { (ts : List Lexed) (limits : Limits) (d at seen to seen1 : ℕ) (x : Type_)
+        → types limits d ts at seen ≡ Done x to seen1 → height x.0 ≡ x.1 }
     ensures not_stopped { (ts : List Lexed) (limits : Limits) (d at seen to seen1 : ℕ) (x : TypeTree)
         → TypeAt ts x at to → Quiet ts to → types limits d ts at seen ≡ Stop seen1 → ⊥ }
     ensures goes_on { (ts : List Lexed) (limits : Limits) (d at : ℕ) → types limits d ts 0 0 ≡ Stop (at + 1)

@@ -6,8 +6,8 @@ use Rattle.slang_tree.specs.declared.places.Place.{Place}
 use Rattle.slang_tree.specs.declared.codes.ModuleCode.{ModuleCode}
 use Rattle.slang_tree.specs.declared.codes.ModuleCode.TheVariants as code
 use Rattle.slang_reading.specs.Lexed.{Lexed}
-use Rattle.slang_reading.specs.Reading.{Outcome, Done, Stop, Past, Parser, and_then, bind, ◌>>=◌, pure, past, first, Choice, Leave, Take, Refuse, Pass, place_of, chosen, next, if_fits, tried, attempt, turn, turns}
-use Rattle.slang_reading.proofs.Tame.{Same, same_less, seen_of, Rises, seen_rises, Tame, tame_pure, tame_past, tame_bind, Each, tame_next, each_fits, tame_attempt, tame_turns}
+use Rattle.slang_reading.specs.Reading.{Outcome, Done, Stop, Past, Parser, and_then, bind, ◌>>=◌, pure, past, first, Choice, Leave, Take, Refuse, Pass, place_of, chosen, next, if_fits, tried, attempt, foreseen, foresee, turn, turns}
+use Rattle.slang_reading.proofs.Tame.{Same, same_less, seen_of, Rises, seen_rises, Tame, tame_pure, tame_past, tame_bind, Each, tame_next, each_fits, tame_attempt, tame_foresee, tame_turns}
 
 -- ---- more room changes nothing but what passed a limit
 
@@ -405,6 +405,89 @@ module _ {A B : Type 0} (F G : Option Lexed → Type 0) (q : Parser B) (h : Opti
       whole = tame_attempt h (λ b. (hf b).whole) q hq.whole;
       grows = attempt_grows;
       completes = λ ts at seen. attempt_completes ts at seen (p ts at seen) refl (hq.completes ts at seen);
+    }
+
+-- ---- a part that is looked at ahead
+
+-- Where q reads something and then the path stands, h true reads both from where q began.
+module _ {A B : Type 0} (F G : Option Lexed → Type 0) (q : Parser B) (h : Bool → Parser A) (path : List Lexed)
+    (leads : (rest : List Lexed) → F (first rest) → G (first (path ++ rest)))
+    (again : (us rest : List Lexed) (at seen mid : ℕ) → Reaches q us at seen mid → drop mid us ≡ path ++ rest → F (first rest) → (seen1 : ℕ) → Reaches (h true) us at seen1 (mid + length path)) where
+  reaches_foresee : (us rest : List Lexed) (at seen mid : ℕ) → Reaches q us at seen mid → drop mid us ≡ path ++ rest → F (first rest) → Reaches (foresee q h) us at seen (mid + length path)
+  unfolding foresee
+  reaches_foresee us rest at seen mid r e g =
+      let t = again us rest at seen mid r e g r.seen1 in
+      record { tree = t.tree; seen1 = t.seen1; is = ap (λ o. foreseen o h us at) r.is ∙ t.is }
+
+  foresee_front : (ts : List Lexed) (at seen k : ℕ) → Completion G q ts at seen k → Completion F (foresee q h) ts at seen k
+  foresee_front ts at seen k c = record {
+    path = c.path ++ path;
+    reads = λ us rest s e g.
+        let e' = e ∙ append_assoc c.path path rest in
+        let r = c.reads us (path ++ rest) s e' (leads rest g) in
+        let n : k + length c.path + length path ≡ k + length (c.path ++ path) = omega (arith, length-append c.path path) in
+        subst (λ n. Reaches (foresee q h) us at seen n) n
+        (reaches_foresee us rest at seen (k + length c.path) r (drop_path k us c.path (path ++ rest) e') g);
+  }
+
+  -- what q did is done again, since all that it looked at is there
+  foresee_back : Tame q → (ts : List Lexed) (at seen k : ℕ) (o : Outcome B) → q ts at seen ≡ o → seen_of o ≤ k →
+      (p : Parser A) (seen1 : ℕ) → ((us : List Lexed) → foreseen o h us at ≡ p us at seen1) → Completion F p ts at seen1 k → Completion F (foresee q h) ts at seen k
+  unfolding foresee
+  foresee_back hq ts at seen k o e l p seen1 same c = record {
+    path = c.path;
+    reads = λ us rest s d g.
+        let r = c.reads us rest s d g in
+        let lt : seen_of (q ts at seen) ≤ k = rw e l in
+        let again = hq.local ts us at seen (same_less _ k ts us lt s) ∙ e in
+        record { tree = r.tree; seen1 = r.seen1; is = ap (λ o. foreseen o h us at) again ∙ (same us ∙ r.is) };
+  }
+
+  module _ (p : Parser B) (f : Bool → Parser A) (hq : Viable G p q) (hf : (b : Bool) → Viable F (f b) (h b)) where
+    foreseen_grows : (ts : List Lexed) (at : ℕ) (o : Outcome B) → (foreseen o h ts at ≡ foreseen o f ts at) ⊎ IsPast (foreseen o f ts at)
+    foreseen_grows ts at (Done b at1 seen) = (hf true).grows.same ts at seen
+    foreseen_grows ts at (Stop seen) = (hf false).grows.same ts at seen
+    foreseen_grows ts at (Past code place seen) = inr tt
+
+    foreseen_past : (ts : List Lexed) (at : ℕ) (o : Outcome B) → IsPast o → IsPast (foreseen o f ts at)
+    foreseen_past ts at (Past code place seen) d = tt
+    foreseen_past ts at (Done b at1 seen) d = absurd d
+    foreseen_past ts at (Stop seen) d = absurd d
+
+    foresee_grows : Grows (foresee p f) (foresee q h)
+    unfolding foresee
+    foresee_grows = record {
+      same = λ ts at seen. elim (hq.grows.same ts at seen) [
+        | inl e ↦ elim (foreseen_grows ts at (p ts at seen)) [ inl s ↦ inl (ap (λ o. foreseen o h ts at) e ∙ s) | inr d ↦ inr d ]
+        | inr d ↦ inr (foreseen_past ts at (p ts at seen) d)
+      ];
+    }
+
+    foresee_part : (ts : List Lexed) (at seen : ℕ) (o : Outcome B) → q ts at seen ≡ o → ((k : ℕ) → seen_of o ≡ k + 1 → seen ≤ k → Completion G q ts at seen k) →
+        (r : Parser A) → ((us : List Lexed) → foreseen o h us at ≡ r us at (seen_of o)) →
+        (u : Outcome A) → Completes F r ts at (seen_of o) u → Rises at (seen_of o) u → Completes F (foresee q h) ts at seen u
+    foresee_part ts at seen o e c r same u d x = λ k n l. elim (le_or_lt (seen_of o) k) [
+      | inl le ↦ foresee_back hq.whole ts at seen k o e le r (seen_of o) same (d k n le)
+      | inr lt ↦ let m = seen_rises at (seen_of o) u x in foresee_front ts at seen k (c k (omega arith) l)
+    ]
+
+    foresee_completes : (ts : List Lexed) (at seen : ℕ) (o : Outcome B) → p ts at seen ≡ o → Completes G q ts at seen o → Completes F (foresee q h) ts at seen (foreseen o f ts at)
+    unfolding foresee
+    foresee_completes ts at seen (Done b at1 seen1) e c =
+        foresee_part ts at seen (Done b at1 seen1) (grown p q hq.grows ts at seen (Done b at1 seen1) e (λ d. d)) c (h true) (λ us. refl) (f true ts at seen1)
+        ((hf true).completes ts at seen1) ((hf true).tame.rises ts at seen1)
+    foresee_completes ts at seen (Stop seen1) e c =
+        foresee_part ts at seen (Stop seen1) (grown p q hq.grows ts at seen (Stop seen1) e (λ d. d)) c (h false) (λ us. refl) (f false ts at seen1)
+        ((hf false).completes ts at seen1) ((hf false).tame.rises ts at seen1)
+    foresee_completes ts at seen (Past code place seen1) e c = λ k n l. foresee_front ts at seen k (c k n l)
+
+    pub viable_foresee : Viable F (foresee p f) (foresee q h)
+    unfolding foresee
+    viable_foresee = record {
+      tame = tame_foresee f (λ b. (hf b).tame) p hq.tame;
+      whole = tame_foresee h (λ b. (hf b).whole) q hq.whole;
+      grows = foresee_grows;
+      completes = λ ts at seen. foresee_completes ts at seen (p ts at seen) refl (hq.completes ts at seen);
     }
 
 -- ---- turns

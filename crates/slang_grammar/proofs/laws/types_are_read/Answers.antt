@@ -1,15 +1,19 @@
-use Rattle.std.proofs.Common.{subst, ℕ}
+use Rattle.std.proofs.Common.{◌≡◌, subst, ℕ}
 use Rattle.slang_grammar.specs.Heights.{height}
 use Rattle.slang_grammar.specs.Types.{TypeAt}
 use Rattle.slang_grammar.specs.TypesDescent.{types, Type_}
 use Rattle.slang_reading.proofs.Exact.{Post, reads_not_stopped}
 use Rattle.slang_grammar.proofs.TypesSpelled.{post_types}
+use Rattle.slang_grammar.proofs.TypesTall.{tall_types}
 use Rattle.slang_grammar.proofs.TypesRead.{reads_type}
 use Rattle.slang_grammar.proofs.TypesWrong.{types_go_on}
 use Rattle.slang_grammar.proofs.laws.types_are_read.Goals as goal
 
 pub returns-clause-spelled : goal.returns-clause-spelled
 returns-clause-spelled c = λ ts limits d at seen to seen1 x e. subst (Post (λ (y : Type_) (end : ℕ). TypeAt ts y.0 at end)) e (post_types ts limits d at seen)
+
+pub returns-clause-tall : goal.returns-clause-tall
+returns-clause-tall c = λ ts limits d at seen to seen1 x e. subst (Post (λ (y : Type_) (end : ℕ). height y.0 ≡ y.1)) e (tall_types ts limits d at seen)
 
 pub returns-clause-not_stopped : goal.returns-clause-not_stopped
 returns-clause-not_stopped c = λ ts limits d at seen to seen1 x s q e.
