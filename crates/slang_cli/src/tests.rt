@@ -288,25 +288,25 @@ fn refusals_have_their_lines(rt: HostRuntime) -> Result<(), Fail> {
         "compile a.main a.spv a",
         9,
         "absent a.slang\n",
-    )?;
-    let long = vec![in alloc; b' '; 1_048_577]?;
-    check_refused(
+    )
+}
+
+/// Compiles a text of `length` blanks, and checks the line that refuses it.
+fn check_blanks(rt: &impl Abort, alloc: Global, length: usize, printed: &str) -> Result<(), Fail> {
+    let blanks = vec![in alloc; b' '; length]?;
+    let text = Some(blanks.as_slice());
+    check_refused(rt, alloc, text, "compile a.main a.spv a", 1, printed)
+}
+
+#[test]
+fn a_long_text_is_refused_at_its_limit(rt: HostRuntime) -> Result<(), Fail> {
+    check_blanks(
         &rt,
-        alloc,
-        Some(long.as_slice()),
-        "compile a.main a.spv a",
-        1,
+        rt.alloc(),
+        1_048_577,
         "refused a 112 TooLong 1048576 1048576\n",
     )?;
-    let blanks = vec![in alloc; b' '; 1_048_576]?;
-    check_refused(
-        &rt,
-        alloc,
-        Some(blanks.as_slice()),
-        "compile a.main a.spv a",
-        1,
-        "refused a 199 NotYet 0 0\n",
-    )
+    check_blanks(&rt, rt.alloc(), 1_048_576, "refused a 199 NotYet 0 0\n")
 }
 
 #[test]
