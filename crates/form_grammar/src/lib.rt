@@ -1,0 +1,8 @@
+//! The grammar of stored modules as data, what a tree of it spells, and its numbers and texts.
+#![tactic(auto)]
+
+mod codes;
+mod numbers;
+
+pub use codes::{FieldFault, FormCode, Level, ReadFault, Stop, refused, short};
+pub use numbers::{count_at, number_at, text_at};
