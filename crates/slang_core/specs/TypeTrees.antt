@@ -11,6 +11,14 @@ use Rattle.slang_core.specs.declared.types.Arg.TheOpen.{TypeTerm-F, Arg-F}
 use Rattle.slang_core.specs.declared.types.Arg.TheOpen as term
 use Rattle.form_grammar.specs.Trees.{Tree, nothing, byte, number, text, ◌▸◌, tagged, nested, many, chain, list_of}
 
+-- nothing, or what is there
+abbrev pub option_of : {A : Type 0} → (A → Tree) → Option A → Tree
+option_of view None = tagged 0 nothing
+option_of view (Some x) = tagged 1 (view x)
+
+abbrev pub name_tree : List ℕ → Tree
+name_tree n = text n
+
 abbrev pub ref_tree : Ref → Tree
 ref_tree r = text r.module ▸ text r.path
 
