@@ -1,11 +1,14 @@
 // Numbers, texts and counts.
 
-ghost use Rattle.std.specs.Prelude.{◌≡◌, ◌≤◌, ◌<◌, length, IfOk, Ok, Err};
+ghost use Rattle.std.specs.Prelude.{◌≡◌, ◌≤◌, ◌<◌, ◌+◌, ◌%◌, ◌++◌, length, IfOk, Ok, Err, OnOk, OnErr};
+ghost use Rattle.form_grammar.specs.Trees.{text, spelling, spelled_number};
+ghost use Rattle.form_grammar.specs.Spellable.{Spellable};
 ghost use Rattle.form_grammar.specs.Numbers as spec;
 ghost use Rattle.form_grammar.specs.Numbers.{after};
 ghost use Rattle.form_grammar.specs.Reading.{Answers};
 
 use crate::{FormCode, Stop};
+use std::alloc::AllocError;
 
 /// The greatest number.
 const GREATEST: u32 = 4_294_967_295;
@@ -90,4 +93,50 @@ pub fn count_at(bytes: &[u8]) -> Result<(u32, &[u8]), Stop>
         });
     }
     Ok((count, rest))
+}
+
+/// A digit by 128 that is not the last.
+fn digit(n: u32) -> u8
+    ensures { result ≡ n % 128 + 128 }
+{
+    (n % 128 + 128) as u8
+}
+
+/// Appends the shortest spelling of a number: digits by 128, the lowest first, each but the last with its top
+/// bit set. After a refusal nothing is changed.
+pub fn put_num(out: &mut Vec<u8>, n: u32) -> Result<(), AllocError>
+    ensures ok { OnOk result (out.new.items ≡ out.old.items ++ spelled_number n) }
+    ensures err { OnErr result (out.new.items ≡ out.old.items) }
+{
+    let second = n / 128;
+    let third = second / 128;
+    let fourth = third / 128;
+    let fifth = fourth / 128;
+    if n < 128 {
+        out.extend_from_slice(&[n as u8])
+    } else if second < 128 {
+        out.extend_from_slice(&[digit(n), second as u8])
+    } else if third < 128 {
+        out.extend_from_slice(&[digit(n), digit(second), third as u8])
+    } else if fourth < 128 {
+        out.extend_from_slice(&[digit(n), digit(second), digit(third), fourth as u8])
+    } else {
+        out.extend_from_slice(&[
+            digit(n),
+            digit(second),
+            digit(third),
+            digit(fourth),
+            fifth as u8,
+        ])
+    }
+}
+
+/// Appends the spelling of a text of 1 to 255 bytes.
+pub fn put_text(out: &mut Vec<u8>, bytes: &[u8]) -> Result<(), AllocError>
+    requires { Spellable (text bytes.now) }
+    ensures { OnOk result (out.new.items ≡ out.old.items ++ spelling (text bytes.now)) }
+{
+    put_num(out, bytes.len() as u32)?;
+    out.extend_from_slice(bytes)?;
+    Ok(())
 }

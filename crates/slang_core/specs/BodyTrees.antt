@@ -15,9 +15,8 @@ use Rattle.slang_core.specs.declared.bodies.Conversions.{Conversions}
 use Rattle.slang_core.specs.declared.bodies.UnaryOp.{UnaryOp}
 use Rattle.slang_core.specs.declared.bodies.UnaryOp.TheVariants.{Negate, Complement, Not}
 use Rattle.slang_core.specs.declared.bodies.BinaryOp.TheVariants.{Add, Subtract, Multiply, Divide, Remainder, BitAnd, BitOr, BitXor, ShiftLeft, ShiftRight, Equal, NotEqual, Less, LessEqual, Greater, GreaterEqual}
-use Rattle.slang_core.specs.declared.evidence.Evidence.{Evidence}
 use Rattle.slang_core.specs.TypeTrees.{ref_tree, value_tree, arg_tree}
-use Rattle.slang_core.specs.EvidenceTrees.{evidence_tree}
+use Rattle.slang_core.specs.EvidenceTrees.{evidence_part}
 use Rattle.slang_core.specs.DeclarationTrees.{term_tree}
 use Rattle.form_grammar.specs.Trees.{Tree, nothing, byte, number, text, ◌▸◌, tagged, nested, many, chain, list_of}
 
@@ -46,9 +45,6 @@ binary_tree GreaterEqual = byte 15
 
 abbrev pub bool_tree : Bool → Tree
 bool_tree b = byte (if b then 1 else 0)
-
-abbrev pub evidence_part : Evidence → Tree
-evidence_part e = nested (evidence_tree e)
 
 abbrev pub call_layer : Call-F Tree Tree Tree Tree → Tree
 call_layer (part.Direct r args bounds given) = tagged 0 (ref_tree r ▸ list_of arg_tree args ▸ list_of evidence_part bounds ▸ many (chain given))

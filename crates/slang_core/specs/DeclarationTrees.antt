@@ -31,7 +31,7 @@ use Rattle.slang_core.specs.declared.declarations.BuiltIn.TheVariants.{GroupId, 
 use Rattle.slang_core.specs.declared.declarations.GenericParam.TheVariants.{Term, Fixed}
 use Rattle.slang_core.specs.declared.declarations.Decl.TheVariants as decl
 use Rattle.slang_core.specs.TypeTrees.{option_of, ref_tree, scalar_tree, type_tree}
-use Rattle.slang_core.specs.EvidenceTrees.{evidence_tree}
+use Rattle.slang_core.specs.EvidenceTrees.{evidence_part}
 use Rattle.form_grammar.specs.Trees.{Tree, byte, number, text, ◌▸◌, tagged, nested, list_of}
 
 abbrev pub access_tree : Access → Tree
@@ -74,7 +74,7 @@ abbrev pub bind_tree : Bind → Tree
 bind_tree b = text b.name ▸ access_tree b.access ▸ term_tree b.of
 
 abbrev pub conf_tree : Conf → Tree
-conf_tree c = ref_tree c.interface ▸ list_of term_tree c.associated ▸ list_of (λ e. nested (evidence_tree e)) c.bounds ▸ list_of ref_tree c.members
+conf_tree c = ref_tree c.interface ▸ list_of term_tree c.associated ▸ list_of evidence_part c.bounds ▸ list_of ref_tree c.members
 
 abbrev pub par_tree : Par → Tree
 par_tree p = mode_tree p.mode ▸ term_tree p.of

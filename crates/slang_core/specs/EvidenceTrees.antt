@@ -14,3 +14,7 @@ evidence_layer (evidence.Conformance s i args bounds) = tagged 2 (ref_tree s ▸
 -- what evidence spells
 abbrev pub evidence_tree : Evidence → Tree
 evidence_tree = fold-Evidence Tree evidence_layer
+
+-- evidence where it stands in another production
+abbrev pub evidence_part : Evidence → Tree
+evidence_part e = nested (evidence_tree e)

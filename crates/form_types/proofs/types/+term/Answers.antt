@@ -5,7 +5,7 @@ use Rattle.form_grammar.specs.Reading.{form_at, nested_at}
 use Rattle.slang_core.specs.TypeTrees.{arg_tree}
 use Rattle.form_grammar.proofs.Loops.{begins, goes_on, fails, is_done}
 use Rattle.form_grammar.proofs.Nested.{nested_none, nested_full, nested_more}
-use Rattle.form_types.proofs.reading.+term.Goals as goal
+use Rattle.form_types.proofs.types.+term.Goals as goal
 
 pub term_of-returns-then-bytes-eq0 : goal.term_of-returns-then-bytes-eq0
 term_of-returns-then-bytes-eq0 t c = rw c.short.ensures (nested_none c.args.level.depth form.Term c.args.bytes.now c.if-bytes-eq0.true)

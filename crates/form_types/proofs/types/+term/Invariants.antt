@@ -3,7 +3,7 @@ use Rattle.form_grammar.specs.Grammar as form
 use Rattle.form_grammar.specs.Reading.{form_at, nested_at, items_at}
 use Rattle.form_grammar.proofs.Loops.{behind_these}
 use Rattle.slang_core.specs.TypeTrees.{arg_tree}
-use Rattle.form_types.proofs.reading.+term.Given as goal
+use Rattle.form_types.proofs.types.+term.Given as goal
 
 abbrev pub decreases-term_of : goal.decreases-term_of
 decreases-term_of l = 8 * l.level.depth
