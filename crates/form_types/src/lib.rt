@@ -4,7 +4,9 @@
 mod evidence;
 mod leaves;
 mod types;
+mod writing;
 
 pub use evidence::{evidence_of, evidences_of};
 pub use leaves::{byte_of, name_of, ref_of, scalar_of, value_of};
 pub use types::{arg_of, args_of, term_of};
+pub use writing::{put_arg, put_args, put_name, put_ref, put_term, put_value, scalar_byte};

@@ -1,10 +1,12 @@
-use Rattle.std.proofs.Common.{arith}
+use Rattle.std.proofs.Common.{arith, rules}
 use Rattle.std.proofs.lemmas.Result.{err_from_is_err_and}
 use Rattle.form_grammar.specs.Grammar as form
 use Rattle.form_grammar.specs.Reading.{form_at, nested_at}
 use Rattle.form_grammar.proofs.Loops.{begins, goes_on, fails, is_done}
 use Rattle.form_grammar.proofs.Nested.{nested_none, nested_full, nested_more}
 use Rattle.slang_core.specs.EvidenceTrees.{evidence_part}
+use Rattle.form_grammar.specs.Numbers.{after}
+use Rattle.form_types.proofs.Conformances.{conformance_tree}
 use Rattle.form_types.proofs.evidence.+evidence.Goals as goal
 
 pub evidence_of-returns-then-bytes-eq0 : goal.evidence_of-returns-then-bytes-eq0
@@ -30,3 +32,9 @@ evidence_items-loop-preserved t c =
 
 pub evidence_items-returns : goal.evidence_items-returns
 evidence_items-returns t c = is_done evidence_part (form_at (nested_at c.args.level.depth) (form.part form.Evidence)) c.args.count _ c.loop.items c.loop.counter c.loop.rest.now c.loop-test.false c.loop.invariant
+
+pub conformance_of-returns : goal.conformance_of-returns
+unfolding form_at after
+conformance_of-returns t c =
+    let e = conformance_tree c.in_ok-subject.subject c.in_ok-interface.interface c.in_ok-args.args c.in_ok-bounds.bounds in
+    search rules
