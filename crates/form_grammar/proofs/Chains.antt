@@ -1,7 +1,6 @@
 -- Chains of trees of lists.
-use Rattle.std.proofs.Common.{◌≡◌, ℕ, zero, suc, ◌+◌, ◌<◌, ◌≤◌, ◌++◌, length, drop, get_or, List, [], ◌∷◌, map, refl, sym, subst, ap, ◌∙◌, append_assoc, arith}
+use Rattle.std.proofs.Common.{◌≡◌, ℕ, zero, suc, ◌+◌, ◌<◌, ◌≤◌, ◌++◌, length, drop, get_or, List, [], ◌∷◌, map, refl, sym, ap, ◌∙◌, append_assoc, arith}
 use Rattle.std.proofs.lemmas.List.{append-nil}
-use Rattle.form_grammar.specs.Spellable.{Spellable}
 use Rattle.form_grammar.specs.Trees.{Tree, nested, ◌⨾◌, chain, size, end, spelling}
 
 pub chain_nested : {A : Type 0} (view : A → Tree) (xs : List A) → chain (map (λ t. nested t) (map view xs)) ≡ chain (map (λ x. nested (view x)) xs)
@@ -26,25 +25,17 @@ module _ {A : Type 0} (view : A → Tree) where
   at_end (y ∷ ys) zero h = absurd (omega arith)
   at_end (y ∷ ys) (suc i) h = at_end ys i (omega arith)
 
-  -- what is written, and what is still to be written, is the whole; and that can be written
+  -- what is written, and what is still to be written, is the whole
   pub record Writes (out : List ℕ) (xs : List A) (i : ℕ) (total : List ℕ) : Type 0 where
     pub goes : out ++ spelling (chain (map view (drop i xs))) ≡ total
-    pub can : Spellable (chain (map view (drop i xs)))
-
-  pub can_write : (out : List ℕ) (xs : List A) (i : ℕ) (total : List ℕ) (x : A) → i < length xs → x ≡ get_or xs i x → Writes out xs i total → Spellable (view x)
-  can_write out xs i total x h e w = let c : Spellable (view x ⨾ chain (map view (drop (i + 1) xs))) = subst (λ t. Spellable t) (at_one xs i x h e) w.can in c.0
 
   pub wrote : (out new : List ℕ) (xs : List A) (i : ℕ) (total : List ℕ) (x : A) → i < length xs → x ≡ get_or xs i x → new ≡ out ++ spelling (view x) → Writes out xs i total → Writes new xs (i + 1) total
   wrote out new xs i total x h e n w =
-      let c : Spellable (view x ⨾ chain (map view (drop (i + 1) xs))) = subst (λ t. Spellable t) (at_one xs i x h e) w.can in
       let g : out ++ (spelling (view x) ++ spelling (chain (map view (drop (i + 1) xs)))) ≡ total = ap (λ t. out ++ spelling t) (sym (at_one xs i x h e)) ∙ w.goes in
-      record {
-        goes = ap (λ o. o ++ spelling (chain (map view (drop (i + 1) xs)))) n ∙ (append_assoc out (spelling (view x)) (spelling (chain (map view (drop (i + 1) xs)))) ∙ g);
-        can = c.1;
-      }
+      record { goes = ap (λ o. o ++ spelling (chain (map view (drop (i + 1) xs)))) n ∙ (append_assoc out (spelling (view x)) (spelling (chain (map view (drop (i + 1) xs)))) ∙ g) }
 
   pub all_written : (out : List ℕ) (xs : List A) (i : ℕ) (total : List ℕ) → length xs ≤ i → Writes out xs i total → out ≡ total
   all_written out xs i total h w = sym (append-nil out) ∙ (ap (λ t. out ++ spelling t) (sym (at_end xs i h)) ∙ w.goes)
 
-  pub to_write : (out : List ℕ) (xs : List A) → Spellable (chain (map view xs)) → Writes out xs 0 (out ++ spelling (chain (map view xs)))
-  to_write out xs c = record { goes = refl; can = c }
+  pub to_write : (out : List ℕ) (xs : List A) → Writes out xs 0 (out ++ spelling (chain (map view xs)))
+  to_write out xs = record { goes = refl }

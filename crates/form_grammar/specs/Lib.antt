@@ -2,4 +2,3 @@ pub mod Trees
 pub mod Grammar
 pub mod Numbers
 pub mod Reading
-pub mod Spellable

@@ -21,9 +21,9 @@ abbrev pub digits : ℕ → ℕ → List ℕ
 digits zero n = []
 digits (suc most) n = if nat_lt n 128 then n ∷ [] else (n % 128 + 128) ∷ digits most (n / 128)
 
--- a number below 2 ^ 32, which has at most five digits
+-- a number below 2 ^ 64, which has at most ten digits
 abbrev pub spelled_number : ℕ → List ℕ
-spelled_number n = digits 5 n
+spelled_number n = digits 10 n
 
 -- these trees before that chain
 abbrev pub onto : List Tree → Tree → Tree

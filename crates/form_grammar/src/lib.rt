@@ -5,4 +5,4 @@ mod codes;
 mod numbers;
 
 pub use codes::{FieldFault, FormCode, Level, ReadFault, Stop, refused, short};
-pub use numbers::{count_at, number_at, put_num, put_text, text_at};
+pub use numbers::{count_at, number_at, put_count, put_num, put_text, text_at};

@@ -1,8 +1,7 @@
 // Numbers, texts and counts.
 
 ghost use Rattle.std.specs.Prelude.{◌≡◌, ◌≤◌, ◌<◌, ◌+◌, ◌%◌, ◌++◌, length, IfOk, Ok, Err, OnOk, OnErr};
-ghost use Rattle.form_grammar.specs.Trees.{text, spelling, spelled_number};
-ghost use Rattle.form_grammar.specs.Spellable.{Spellable};
+ghost use Rattle.form_grammar.specs.Trees.{text, spelling, spelled_number, digits};
 ghost use Rattle.form_grammar.specs.Numbers as spec;
 ghost use Rattle.form_grammar.specs.Numbers.{after};
 ghost use Rattle.form_grammar.specs.Reading.{Answers};
@@ -131,12 +130,35 @@ pub fn put_num(out: &mut Vec<u8>, n: u32) -> Result<(), AllocError>
     }
 }
 
-/// Appends the spelling of a text of 1 to 255 bytes.
+/// Appends at most so many digits of a number, the lowest first.
+fn put_digits(out: &mut Vec<u8>, n: usize, most: u8) -> Result<(), AllocError>
+    ensures { OnOk result (out.new.items ≡ out.old.items ++ digits most n) }
+{
+    if most == 0 {
+        return Ok(());
+    }
+    if n < 128 {
+        out.push(n as u8)?;
+        return Ok(());
+    }
+    out.push((n % 128 + 128) as u8)?;
+    put_digits(out, n / 128, most - 1)?;
+    Ok(())
+}
+
+/// Appends the count of a list.
+pub fn put_count(out: &mut Vec<u8>, count: usize) -> Result<(), AllocError>
+    ensures { OnOk result (out.new.items ≡ out.old.items ++ spelled_number count) }
+{
+    put_digits(out, count, 10)
+}
+
+/// Appends the spelling of a text: its length and its bytes. One that can be read again has 1 to 255 bytes.
+#[tactic(auto, using(std::proofs::lemmas::List::append_assoc))]
 pub fn put_text(out: &mut Vec<u8>, bytes: &[u8]) -> Result<(), AllocError>
-    requires { Spellable (text bytes.now) }
     ensures { OnOk result (out.new.items ≡ out.old.items ++ spelling (text bytes.now)) }
 {
-    put_num(out, bytes.len() as u32)?;
+    put_count(out, bytes.len())?;
     out.extend_from_slice(bytes)?;
     Ok(())
 }

@@ -2,17 +2,15 @@
 
 ghost use Rattle.std.specs.Prelude.{◌≡◌, ◌++◌, ◌∷◌, [], OnOk, map};
 ghost use Rattle.form_grammar.specs.Trees.{text, spelling, chain, list_of};
-ghost use Rattle.form_grammar.specs.Spellable.{Spellable};
 ghost use Rattle.slang_core.specs.TypeTrees.{ref_tree, value_tree, scalar_tree, type_tree, arg_tree};
 
-use form_grammar::{put_num, put_text};
+use form_grammar::{put_count, put_num, put_text};
 use slang_core::{Arg, Scalar, TypeTerm};
 use slang_tree::{Name, Ref, Value};
 use std::alloc::AllocError;
 
 /// Appends a name.
 pub fn put_name(out: &mut Vec<u8>, name: &Name) -> Result<(), AllocError>
-    requires { Spellable (text name.now) }
     ensures { OnOk result (out.new.items ≡ out.old.items ++ spelling (text name.now)) }
 {
     put_text(out, name.as_bytes())
@@ -21,7 +19,6 @@ pub fn put_name(out: &mut Vec<u8>, name: &Name) -> Result<(), AllocError>
 /// Appends a reference to a declaration.
 #[tactic(auto, using(std::proofs::lemmas::List::append_assoc))]
 pub fn put_ref(out: &mut Vec<u8>, name: &Ref) -> Result<(), AllocError>
-    requires { Spellable (ref_tree name.now) }
     ensures { OnOk result (out.new.items ≡ out.old.items ++ spelling (ref_tree name.now)) }
 {
     put_name(out, &name.module)?;
@@ -59,7 +56,6 @@ pub fn scalar_byte(scalar: Scalar) -> u8
 
 #[cycle(put_term)]
 fn put_arg_items(out: &mut Vec<u8>, args: &[Arg]) -> Result<(), AllocError>
-    requires { Spellable (chain (map arg_tree args.now)) }
     ensures { OnOk result (out.new.items ≡ out.old.items ++ spelling (chain (map arg_tree args.now))) }
 {
     for arg in args {
@@ -72,10 +68,9 @@ fn put_arg_items(out: &mut Vec<u8>, args: &[Arg]) -> Result<(), AllocError>
 #[cycle(put_term)]
 #[tactic(auto, using(std::proofs::lemmas::List::append_assoc, form_grammar::proofs::Chains::size_chain))]
 pub fn put_args(out: &mut Vec<u8>, args: &[Arg]) -> Result<(), AllocError>
-    requires { Spellable (list_of arg_tree args.now) }
     ensures { OnOk result (out.new.items ≡ out.old.items ++ spelling (list_of arg_tree args.now)) }
 {
-    put_num(out, args.len() as u32)?;
+    put_count(out, args.len())?;
     put_arg_items(out, args)?;
     Ok(())
 }
@@ -84,7 +79,6 @@ pub fn put_args(out: &mut Vec<u8>, args: &[Arg]) -> Result<(), AllocError>
 #[cycle(put_term)]
 #[tactic(auto, using(std::proofs::lemmas::List::append_assoc))]
 pub fn put_arg(out: &mut Vec<u8>, arg: &Arg) -> Result<(), AllocError>
-    requires { Spellable (arg_tree arg.now) }
     ensures { OnOk result (out.new.items ≡ out.old.items ++ spelling (arg_tree arg.now)) }
 {
     match arg {
@@ -104,7 +98,6 @@ pub fn put_arg(out: &mut Vec<u8>, arg: &Arg) -> Result<(), AllocError>
 #[cycle(put_term)]
 #[tactic(auto, using(std::proofs::lemmas::List::append_assoc))]
 pub fn put_term(out: &mut Vec<u8>, term: &TypeTerm) -> Result<(), AllocError>
-    requires { Spellable (type_tree term.now) }
     ensures { OnOk result (out.new.items ≡ out.old.items ++ spelling (type_tree term.now)) }
 {
     match term {
