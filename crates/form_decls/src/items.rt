@@ -5,8 +5,9 @@ ghost use Rattle.form_grammar.specs.Trees.{Tree, spelling, chain, list_of};
 ghost use Rattle.form_grammar.specs.Grammar as form;
 ghost use Rattle.form_grammar.specs.Numbers.{after};
 ghost use Rattle.form_grammar.specs.Reading.{Gives, form_at, nested_at, items_at};
+ghost use Rattle.slang_core.specs.TypeTrees.{option_of};
 
-use form_grammar::{Level, ReadFault, count_at, put_count};
+use form_grammar::{FormCode, Level, ReadFault, count_at, put_count, refused, short};
 use sqlite_items::Items;
 use std::alloc::AllocError;
 
@@ -65,5 +66,36 @@ pub fn put_list<T: Stored>(out: &mut Vec<u8>, items: &[T]) -> Result<(), AllocEr
 {
     put_count(out, items.len())?;
     put_items(out, items)?;
+    Ok(())
+}
+
+/// What may be there, at the front.
+#[tactic(auto, unfolding(form_grammar::specs::Reading::form_at, form_grammar::specs::Numbers::after))]
+pub fn option_at<T: Stored>(level: Level, bytes: &[u8]) -> Result<(Option<T>, &[u8]), ReadFault>
+    ensures { Gives (λ x. (option_of T.tree x.0, x.1.now)) result (form_at (nested_at level.depth) (form.opt T.form) bytes.now) }
+{
+    match bytes {
+        [] => Err(short()),
+        [0, rest @ ..] => Ok((None, rest)),
+        [1, rest @ ..] => {
+            let (item, rest) = T::read(level, rest)?;
+            Ok((Some(item), rest))
+        }
+        _ => Err(refused(FormCode::NotCanonical, bytes)),
+    }
+}
+
+/// Appends what may be there.
+#[tactic(auto, using(std::proofs::lemmas::List::append_assoc))]
+pub fn put_option<T: Stored>(out: &mut Vec<u8>, item: &Option<T>) -> Result<(), AllocError>
+    ensures { OnOk result (out.new.items ≡ out.old.items ++ spelling (option_of T.tree item.now)) }
+{
+    match item {
+        None => out.push(0)?,
+        Some(item) => {
+            out.push(1)?;
+            item.put(out)?;
+        }
+    }
     Ok(())
 }
