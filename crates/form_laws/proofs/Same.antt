@@ -18,7 +18,7 @@ digits_last most n h = ap (λ b. cond b (n ∷ []) ((n % 128 + 128) ∷ digits m
 pub digits_more : (most n : ℕ) → 128 ≤ n → digits (suc most) n ≡ (n % 128 + 128) ∷ digits most (n / 128)
 digits_more most n h = ap (λ b. cond b (n ∷ []) ((n % 128 + 128) ∷ digits most (n / 128))) (le-ltb n 128 h)
 
-heads : {x y : ℕ} {a b : List ℕ} → x ∷ a ≡ y ∷ b → (x ≡ y) × (a ≡ b)
+pub heads : {x y : ℕ} {a b : List ℕ} → x ∷ a ≡ y ∷ b → (x ≡ y) × (a ≡ b)
 heads e = (cc, cc)
 
 digits_same : (most m n : ℕ) (a b : List ℕ) → InDigits most m → InDigits most n → digits most m ++ a ≡ digits most n ++ b → (m ≡ n) × (a ≡ b)
@@ -111,7 +111,7 @@ chain_empty end f p e = refl
 chain_empty (y ⨾ ys) f p e = absurd (omega arith)
 chain_empty _ f p e = elim p [ ]
 
-chain_more : (y : Tree) (f : Form) (n : ℕ) → AreForm y f → suc n ≡ size y → (z : Tree) × (zs : Tree) × (y ≡ z ⨾ zs) × IsForm z f × AreForm zs f × (n ≡ size zs)
+pub chain_more : (y : Tree) (f : Form) (n : ℕ) → AreForm y f → suc n ≡ size y → (z : Tree) × (zs : Tree) × (y ≡ z ⨾ zs) × IsForm z f × AreForm zs f × (n ≡ size zs)
 chain_more end f n p e = absurd (omega arith)
 chain_more (z ⨾ zs) f n p e = (z, zs, refl, p.0, p.1, omega arith)
 chain_more _ f n p e = elim p [ ]
@@ -136,16 +136,16 @@ split_same (x ∷ s) (y ∷ t) a b n e =
     let i = split_same s t a b (omega arith) h.1 in
     (ap (λ z. z ∷ s) h.0 ∙ ap (λ z. y ∷ z) i.0, i.1)
 
-abbrev some_form : Form → Option Form
+abbrev pub some_form : Form → Option Form
 some_form f = Some f
 
-abbrev none_form : Option Form
+abbrev pub none_form : Option Form
 none_form = None
 
-none_some : {f : Form} → none_form ≡ some_form f → ⊥
+pub none_some : {f : Form} → none_form ≡ some_form f → ⊥
 none_some e = absurd cc
 
-some_same : {f g : Form} → some_form f ≡ some_form g → f ≡ g
+pub some_same : {f g : Form} → some_form f ≡ some_form g → f ≡ g
 some_same e = cc
 
 -- a tree of a form that has a choice for some tag is tagged
@@ -161,7 +161,7 @@ is_tagged (many x) (list f) g k e q = absurd (none_some e)
 is_tagged (nested x) (part c) g k e q = absurd (none_some e)
 is_tagged _ _ g k e q = elim q [ ]
 
-regroup : (s t a u v b : List ℕ) → (s ++ t) ++ a ≡ (u ++ v) ++ b → s ++ (t ++ a) ≡ u ++ (v ++ b)
+pub regroup : (s t a u v b : List ℕ) → (s ++ t) ++ a ≡ (u ++ v) ++ b → s ++ (t ++ a) ≡ u ++ (v ++ b)
 regroup s t a u v b e = sym (append_assoc s t a) ∙ (e ∙ append_assoc u v b)
 
 at_empty : (y x : Tree) (a b : List ℕ) → spelling x ≡ [] → y ≡ x → a ≡ spelling y ++ b → a ≡ b

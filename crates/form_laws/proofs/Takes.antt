@@ -30,7 +30,7 @@ unfolding after
 after_ok (Ok x) f y e = (x, refl, e)
 after_ok (Err s) f y e = absurd cc
 
-abbrev whole : {A : Type 0} → A → Result A Stop
+abbrev pub whole : {A : Type 0} → A → Result A Stop
 whole x = Ok x
 
 pair_is : {A : Type 0} (p q : A) → whole p ≡ whole q → p ≡ q
@@ -39,10 +39,10 @@ pair_is p q e = cc
 found_is : {A : Type 0} (x y : A) (a b : List ℕ) → found x a ≡ found y b → (x ≡ y) × (a ≡ b)
 found_is x y a b e = let h = pair_is (x, a) (y, b) e in (ap (λ p. p.0) h, ap (λ p. p.1) h)
 
-abbrev stopped : {A : Type 0} → Stop → Found A
+abbrev pub stopped : {A : Type 0} → Stop → Found A
 stopped s = Err s
 
-never : {A : Type 0} (s : Stop) (y : A × List ℕ) → stopped {A = A} s ≡ Ok y → ⊥
+pub never : {A : Type 0} (s : Stop) (y : A × List ℕ) → stopped {A = A} s ≡ Ok y → ⊥
 never s y e = absurd cc
 
 -- each limit that is left behind some digits is the greatest with so many
@@ -101,7 +101,7 @@ number_ones = inr (omega arith, inr (omega arith, inr (omega arith, inr (omega a
 text_ones : Ones 10 255
 text_ones = inr (omega arith, inl (omega arith))
 
-number_take : (bytes : List ℕ) (n : ℕ) (rest : List ℕ) → IsBytes bytes → number_at bytes ≡ found n rest → (n < 2 ^ 32) × (bytes ≡ spelled_number n ++ rest)
+pub number_take : (bytes : List ℕ) (n : ℕ) (rest : List ℕ) → IsBytes bytes → number_at bytes ≡ found n rest → (n < 2 ^ 32) × (bytes ≡ spelled_number n ++ rest)
 unfolding number_at
 number_take [] n rest p e = absurd (never _ _ e)
 number_take (b ∷ bytes) n rest p e =
@@ -114,7 +114,7 @@ number_take (b ∷ bytes) n rest p e =
           (omega (arith, i.1), i.2)
     ]
 
-text_take : (bytes t rest : List ℕ) → IsBytes bytes → text_at bytes ≡ found t rest → (0 < length t) × (length t < 256) × (bytes ≡ (spelled_number (length t) ++ t) ++ rest)
+pub text_take : (bytes t rest : List ℕ) → IsBytes bytes → text_at bytes ≡ found t rest → (0 < length t) × (length t < 256) × (bytes ≡ (spelled_number (length t) ++ t) ++ rest)
 unfolding text_at
 text_take bytes t rest p e =
     let a = after_ok (digits_at 255 bytes) (λ n. cond (nat_lt (length n.1) n.0) short (Ok (take n.0 n.1, drop n.0 n.1))) (t, rest) e in
@@ -129,7 +129,7 @@ text_take bytes t rest p e =
            i.2 ∙ (ap (λ z. spelled_number a.0.0 ++ z) both ∙ (sym (append_assoc (spelled_number a.0.0) t rest) ∙ ap (λ k. (spelled_number k ++ t) ++ rest) (sym len))))
     ]
 
-count_take : (bytes : List ℕ) (n : ℕ) (rest : List ℕ) → IsBytes bytes → count_at bytes ≡ found n rest → (n ≤ 65536) × (bytes ≡ spelled_number n ++ rest)
+pub count_take : (bytes : List ℕ) (n : ℕ) (rest : List ℕ) → IsBytes bytes → count_at bytes ≡ found n rest → (n ≤ 65536) × (bytes ≡ spelled_number n ++ rest)
 unfolding count_at
 count_take bytes n rest p e =
     let a = after_ok (number_at bytes) (λ n. cond (nat_lt 65536 n.0) (Err (record { code = FormLimit; left = length n.1 + 1 })) (Ok n)) (n, rest) e in
@@ -153,7 +153,7 @@ pub record TakesItems (f : Form) (d n : ℕ) (bytes : List ℕ) (x : Tree) (rest
   pub size : size x ≡ n
   pub parts : bytes ≡ spelling x ++ rest
 
-rest_bytes : (bytes s rest : List ℕ) → IsBytes bytes → bytes ≡ s ++ rest → IsBytes rest
+pub rest_bytes : (bytes s rest : List ℕ) → IsBytes bytes → bytes ≡ s ++ rest → IsBytes rest
 rest_bytes bytes s rest p e = bytes_behind s rest (subst (λ b. IsBytes b) e p)
 
 -- what a tag is followed by is told by tags alone
@@ -169,7 +169,7 @@ IsSound (alt n f g) = IsSound f × IsSound g × IsChoice g
 IsSound (list f) = IsSound f
 IsSound _ = ⊤
 
-grammar_sound : (c : Class) → IsSound (grammar c)
+pub grammar_sound : (c : Class) → IsSound (grammar c)
 grammar_sound Class.Term = search depth 60
 grammar_sound Class.Evidence = search depth 60
 grammar_sound Class.Stat = search depth 60
@@ -207,11 +207,11 @@ passed n g h d b bytes x rest e c t =
     head_of z [] = z
     head_of z (y ∷ ys) = y
 
-abbrev NestedTake : ℕ → Type 0
+abbrev pub NestedTake : ℕ → Type 0
 NestedTake d = (c : Class) (bytes : List ℕ) (x : Tree) (rest : List ℕ) → IsBytes bytes → nested_at d c bytes ≡ found x rest → IsForm x (grammar c) × Fits (nested x) d × (bytes ≡ spelling x ++ rest)
 
 module _ (d : ℕ) (inner : NestedTake d) where
-  items_take : (f : Form) (each : (bytes : List ℕ) (x : Tree) (rest : List ℕ) → IsBytes bytes → form_at (nested_at d) f bytes ≡ found x rest → Takes f d bytes x rest)
+  pub items_take : (f : Form) (each : (bytes : List ℕ) (x : Tree) (rest : List ℕ) → IsBytes bytes → form_at (nested_at d) f bytes ≡ found x rest → Takes f d bytes x rest)
       (n : ℕ) (bytes : List ℕ) (x : Tree) (rest : List ℕ) → IsBytes bytes → items_at (form_at (nested_at d) f) n bytes ≡ found x rest → TakesItems f d n bytes x rest
   unfolding items_at
   items_take f each zero bytes x rest p e =
@@ -300,7 +300,7 @@ module _ (d : ℕ) (inner : NestedTake d) where
       let i = inner c bytes a.0.0 a.0.1 p a.1 in
       moved (part c) d bytes (nested a.0.0) x a.0.1 rest a.2 (record { form = i.0; fits = i.1; parts = i.2 })
 
-nested_take : (d : ℕ) → NestedTake d
+pub nested_take : (d : ℕ) → NestedTake d
 unfolding nested_at
 nested_take zero c [] x rest p e = absurd (never _ _ e)
 nested_take zero c (b ∷ bytes) x rest p e = absurd (never _ _ e)
