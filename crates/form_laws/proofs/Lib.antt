@@ -1,1 +1,4 @@
 pub mod Same
+pub mod Again
+pub mod Takes
+pub mod Refuses

@@ -1,5 +1,5 @@
 -- Which trees are of a form, and which bytes are stored modules.
-use Rattle.std.specs.Prelude.{◌≡◌, ℕ, ◌<◌, ◌≤◌, ◌^◌, ⊤, ◌++◌, List, length, IsSomeAnd}
+use Rattle.std.specs.Prelude.{◌≡◌, ℕ, zero, suc, ◌<◌, ◌≤◌, ◌^◌, ⊤, ◌++◌, List, length, IsSomeAnd}
 use Rattle.form_grammar.specs.Trees.{Tree, nothing, byte, number, text, ◌▸◌, tagged, nested, many, end, ◌⨾◌, size, spelling}
 use Rattle.form_grammar.specs.Grammar.{Form, unit, exactly, range, num, name, ◌▹◌, list, part, chosen, grammar, module_form}
 
@@ -30,3 +30,13 @@ IsStored bytes = (x : Tree) × IsForm x module_form × (bytes ≡ spelling x)
 -- some stored module begins with these bytes
 abbrev pub GoesOn : List ℕ → Type 0
 GoesOn front = (more : List ℕ) × IsStored (front ++ more)
+
+-- no list has more than 65,536 items, and at most so many productions stand in one another
+abbrev pub Fits : Tree → ℕ → Type 0
+Fits (x ▸ y) depth = Fits x depth × Fits y depth
+Fits (tagged k x) depth = Fits x depth
+Fits (nested x) zero = ⊥
+Fits (nested x) (suc depth) = Fits x depth
+Fits (many xs) depth = (size xs ≤ 65536) × Fits xs depth
+Fits (x ⨾ xs) depth = Fits x depth × Fits xs depth
+Fits _ depth = ⊤
