@@ -145,7 +145,6 @@ pub fn call_of(level: Level, bytes: &[u8]) -> Result<(Call, &[u8]), ReadFault>
     }
 }
 
-#[cycle(expr)]
 #[tactic(auto, unfolding(form_grammar::specs::Reading::form_at, form_grammar::specs::Numbers::after))]
 fn int_of(level: Level, bytes: &[u8]) -> Result<(Expr, &[u8]), ReadFault>
     ensures { Gives (λ x. (expr_tree x.0, x.1.now)) result (behind (nested_at level.depth) 0 (form.num) bytes.now) }
@@ -154,7 +153,6 @@ fn int_of(level: Level, bytes: &[u8]) -> Result<(Expr, &[u8]), ReadFault>
     Ok((Expr::Int(bits), rest))
 }
 
-#[cycle(expr)]
 #[tactic(auto, unfolding(form_grammar::specs::Reading::form_at, form_grammar::specs::Numbers::after))]
 fn uint_of(level: Level, bytes: &[u8]) -> Result<(Expr, &[u8]), ReadFault>
     ensures { Gives (λ x. (expr_tree x.0, x.1.now)) result (behind (nested_at level.depth) 1 (form.num) bytes.now) }
@@ -302,7 +300,6 @@ fn list_expr(level: Level, bytes: &[u8]) -> Result<(Expr, &[u8]), ReadFault>
     Ok((Expr::List(of, items), rest))
 }
 
-#[cycle(expr)]
 #[tactic(auto, unfolding(form_grammar::specs::Reading::form_at, form_grammar::specs::Numbers::after))]
 fn zero_of(level: Level, bytes: &[u8]) -> Result<(Expr, &[u8]), ReadFault>
     ensures { Gives (λ x. (expr_tree x.0, x.1.now)) result (behind (nested_at level.depth) 18 (form.part form.Term) bytes.now) }
@@ -311,7 +308,6 @@ fn zero_of(level: Level, bytes: &[u8]) -> Result<(Expr, &[u8]), ReadFault>
     Ok((Expr::Zero(of), rest))
 }
 
-#[cycle(expr)]
 #[tactic(auto, unfolding(form_grammar::specs::Reading::form_at, form_grammar::specs::Numbers::after))]
 fn fixed_of(level: Level, bytes: &[u8]) -> Result<(Expr, &[u8]), ReadFault>
     ensures { Gives (λ x. (expr_tree x.0, x.1.now)) result (behind (nested_at level.depth) 19 (form.value) bytes.now) }
@@ -373,7 +369,6 @@ pub fn expr_of(level: Level, bytes: &[u8]) -> Result<(Expr, &[u8]), ReadFault>
     )
 }
 
-#[cycle(expr)]
 #[tactic(auto, unfolding(form_grammar::specs::Reading::form_at, form_grammar::specs::Numbers::after))]
 fn local_place(level: Level, bytes: &[u8]) -> Result<(PlaceTerm, &[u8]), ReadFault>
     ensures { Gives (λ x. (place_tree x.0, x.1.now)) result (behind (nested_at level.depth) 0 (form.num) bytes.now) }
@@ -382,7 +377,6 @@ fn local_place(level: Level, bytes: &[u8]) -> Result<(PlaceTerm, &[u8]), ReadFau
     Ok((PlaceTerm::Local(number), rest))
 }
 
-#[cycle(expr)]
 #[tactic(auto, unfolding(form_grammar::specs::Reading::form_at, form_grammar::specs::Numbers::after))]
 fn global_place(level: Level, bytes: &[u8]) -> Result<(PlaceTerm, &[u8]), ReadFault>
     ensures { Gives (λ x. (place_tree x.0, x.1.now)) result (behind (nested_at level.depth) 2 (form.ref) bytes.now) }

@@ -39,12 +39,6 @@ decreases-required_of l = 16 * l.level.depth + 4
 abbrev pub decreases-call_of : goal.decreases-call_of
 decreases-call_of l = 16 * l.level.depth + 5
 
-abbrev pub decreases-int_of : goal.decreases-int_of
-decreases-int_of l = 16 * l.level.depth + 6
-
-abbrev pub decreases-uint_of : goal.decreases-uint_of
-decreases-uint_of l = 16 * l.level.depth + 6
-
 abbrev pub decreases-read_of : goal.decreases-read_of
 decreases-read_of l = 16 * l.level.depth + 6
 
@@ -87,23 +81,11 @@ decreases-call_expr l = 16 * l.level.depth + 6
 abbrev pub decreases-list_expr : goal.decreases-list_expr
 decreases-list_expr l = 16 * l.level.depth + 6
 
-abbrev pub decreases-zero_of : goal.decreases-zero_of
-decreases-zero_of l = 16 * l.level.depth + 6
-
-abbrev pub decreases-fixed_of : goal.decreases-fixed_of
-decreases-fixed_of l = 16 * l.level.depth + 6
-
 abbrev pub decreases-expr_body : goal.decreases-expr_body
 decreases-expr_body l = 16 * l.level.depth + 7
 
 abbrev pub decreases-expr_of : goal.decreases-expr_of
 decreases-expr_of l = 16 * l.level.depth + 0
-
-abbrev pub decreases-local_place : goal.decreases-local_place
-decreases-local_place l = 16 * l.level.depth + 6
-
-abbrev pub decreases-global_place : goal.decreases-global_place
-decreases-global_place l = 16 * l.level.depth + 6
 
 abbrev pub decreases-field_place : goal.decreases-field_place
 decreases-field_place l = 16 * l.level.depth + 6
