@@ -2,3 +2,4 @@ pub mod Same
 pub mod Again
 pub mod Takes
 pub mod Refuses
+pub mod Completes

@@ -20,7 +20,7 @@ IsWrong Short = ⊥
 IsWrong FormLimit = ⊥
 IsWrong _ = ⊤
 
-stop_is : {A : Type 0} (s t : Stop) → stopped {A = A} s ≡ stopped t → s ≡ t
+pub stop_is : {A : Type 0} (s t : Stop) → stopped {A = A} s ≡ stopped t → s ≡ t
 stop_is s t e = cc
 
 not_wrong : {A : Type 0} (s t : Stop) → stopped {A = A} s ≡ stopped t → (IsWrong s.code → ⊥) → IsWrong t.code → ⊥

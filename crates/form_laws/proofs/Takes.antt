@@ -50,7 +50,7 @@ abbrev pub Ones : ℕ → ℕ → Type 0
 Ones zero limit = ⊥
 Ones (suc most) limit = (limit < 128) ⊎ ((limit % 128 ≡ 127) × Ones most (limit / 128))
 
-digits_take : (most limit : ℕ) (bytes : List ℕ) (n : ℕ) (rest : List ℕ) → Ones most limit → IsBytes bytes → digits_at limit bytes ≡ found n rest →
+pub digits_take : (most limit : ℕ) (bytes : List ℕ) (n : ℕ) (rest : List ℕ) → Ones most limit → IsBytes bytes → digits_at limit bytes ≡ found n rest →
     (0 < n) × (n ≤ limit) × (bytes ≡ digits most n ++ rest)
 unfolding digits_at
 digits_take zero limit bytes n rest o p e = absurd o
@@ -95,10 +95,10 @@ digits_take (suc most) limit (b ∷ bytes) n rest o p e =
     higher (inl h) g = absurd (omega arith)
     higher (inr h) g = h
 
-number_ones : Ones 10 4294967295
+pub number_ones : Ones 10 4294967295
 number_ones = inr (omega arith, inr (omega arith, inr (omega arith, inr (omega arith, inl (omega arith)))))
 
-text_ones : Ones 10 255
+pub text_ones : Ones 10 255
 text_ones = inr (omega arith, inl (omega arith))
 
 pub number_take : (bytes : List ℕ) (n : ℕ) (rest : List ℕ) → IsBytes bytes → number_at bytes ≡ found n rest → (n < 2 ^ 32) × (bytes ≡ spelled_number n ++ rest)

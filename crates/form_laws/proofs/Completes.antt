@@ -1,0 +1,284 @@
+-- The bytes before a refusal can be completed.
+use Rattle.std.proofs.Common.{◌≡◌, ℕ, zero, suc, ◌+◌, ◌-◌, ◌*◌, ◌/◌, ◌%◌, ◌^◌, ◌<◌, ◌≤◌, ◌⊎◌, inl, inr, Bool, true, false, not, ◌&&◌, Option, Some, None, List, [], ◌∷◌, ◌++◌, length, take, drop, replicate, Result, Ok, Err, cond, ltb, leb, eqb, refl, sym, ap, subst, ◌∙◌, append_assoc, arith}
+use Rattle.std.specs.Prelude.{nat_eq, nat_lt, nat_le, ⊤, IsSomeAnd}
+use Rattle.std.proofs.lemmas.Bool.{cases_lt, cases_eq, cases_Bool, lt-ltb, le-ltb, ne_eqb, eq-eqb}
+use Rattle.std.proofs.lemmas.List.{append-nil, length-append, length-replicate}
+use Rattle.form_grammar.specs.declared.codes.FormCode.{FormCode}
+use Rattle.form_grammar.specs.declared.codes.FormCode.TheVariants.{Short, NotCanonical, FormLimit}
+use Rattle.form_grammar.specs.declared.codes.Stop.{Stop}
+use Rattle.form_grammar.specs.Trees.{Tree, nothing, byte, number, text, ◌▸◌, tagged, nested, many, end, ◌⨾◌, size, spelling, spelled_number, digits}
+use Rattle.form_grammar.specs.Grammar.{Form, Class, unit, exactly, range, num, name, ◌▹◌, tag, alt, list, part, chosen, grammar}
+use Rattle.form_grammar.specs.Numbers.{Found, after, digits_at, number_at, text_at, count_at, short, refused}
+use Rattle.form_grammar.specs.Reading.{Reader, form_at, nested_at, items_at}
+use Rattle.form_laws.specs.Forms.{IsForm, AreForm}
+use Rattle.form_laws.proofs.Same.{InDigits, in_ten, digits_last, digits_more, heads}
+use Rattle.form_laws.proofs.Again.{if_true, if_false}
+use Rattle.form_laws.proofs.Takes.{IsBytes, IsSound, IsChoice, Ones, found, stopped, never, digits_take, number_ones, text_ones, number_take, count_take, takes, rest_bytes, grammar_sound}
+use Rattle.form_laws.proofs.Refuses.{after_err, found_not, stop_is}
+
+-- The bytes before the refused one can be completed to something of P, by at least a byte. For Short these are all bytes.
+pub record Completes (P : List ℕ → Type 0) (bytes : List ℕ) (s : Stop) : Type 0 where
+  pub front : List ℕ
+  pub back : List ℕ
+  pub more : List ℕ
+  pub parts : bytes ≡ front ++ back
+  pub left : s.left ≡ length back
+  pub whole : P (front ++ more)
+  pub longer : 0 < length more
+
+-- with nothing before
+from_start : (P : List ℕ → Type 0) (bytes word : List ℕ) (s : Stop) → s.left ≡ length bytes → P word → 0 < length word → Completes P bytes s
+from_start P bytes word s l w n = record { front = []; back = bytes; more = word; parts = refl; left = l; whole = w; longer = n }
+
+-- behind what was read, and with what is still to come
+within : (P Q : List ℕ → Type 0) (before bytes rest : List ℕ) (s : Stop) → bytes ≡ before ++ rest → Completes Q rest s → ((l : List ℕ) → Q l → (tail : List ℕ) × P (before ++ (l ++ tail))) → Completes P bytes s
+within P Q before bytes rest s e r h =
+    let t = h (r.front ++ r.more) r.whole in
+    record {
+      front = before ++ r.front;
+      back = r.back;
+      more = r.more ++ t.0;
+      parts = e ∙ (ap (λ z. before ++ z) r.parts ∙ sym (append_assoc before r.front r.back));
+      left = r.left;
+      whole = subst P (ap (λ z. before ++ z) (append_assoc r.front r.more t.0) ∙ sym (append_assoc before r.front (r.more ++ t.0))) t.1;
+      longer = omega (arith, r.longer, length-append r.more t.0);
+    }
+
+left_of : (A : Type 0) (t s : Stop) → stopped {A = A} t ≡ stopped s → s.left ≡ t.left
+left_of A t s e = ap (λ z. z.left) (sym (stop_is {A = A} t s e))
+
+abbrev pub DigitsAre : ℕ → ℕ → List ℕ → Type 0
+DigitsAre most limit l = (n : ℕ) × (0 < n) × (n ≤ limit) × (digits most n ≡ l)
+
+one_is : (most limit : ℕ) → 0 < limit → DigitsAre (suc most) limit (1 ∷ [])
+one_is most limit h = (1, omega arith, omega arith, refl)
+
+digits_complete : (most limit : ℕ) (bytes : List ℕ) (s : Stop) → Ones most limit → 0 < limit → IsBytes bytes → digits_at limit bytes ≡ stopped s → Completes (DigitsAre most limit) bytes s
+unfolding digits_at
+digits_complete zero limit bytes s o h p e = absurd o
+digits_complete (suc most) limit [] s o h p e = from_start (DigitsAre (suc most) limit) [] (1 ∷ []) s (left_of ℕ (record { code = Short; left = 0 }) s e) (one_is most limit h) (omega arith)
+digits_complete (suc most) limit (b ∷ bytes) s o h p e =
+    elim (cases_lt b 128) [
+      | inl l ↦
+          let e1 = sym (if_true (nat_lt b 128) _ _ (lt-ltb b 128 l)) ∙ e in
+          elim (cases_Bool (leb b limit && not (eqb b 0))) [
+            | inl t ↦ absurd (found_not b bytes s (sym (if_true (nat_le b limit && not (nat_eq b 0)) _ _ t) ∙ e1))
+            | inr t ↦ here (sym (if_false (nat_le b limit && not (nat_eq b 0)) _ _ t) ∙ e1)
+          ]
+      | inr l ↦
+          let e1 = sym (if_false (nat_lt b 128) _ _ (le-ltb b 128 l)) ∙ e in
+          elim (cases_lt limit 128) [
+            | inl m ↦ here (sym (if_true (nat_lt limit 128) _ _ (lt-ltb limit 128 m)) ∙ e1)
+            | inr m ↦ elim (after_err (digits_at (limit / 128) bytes) (λ high. Ok (b - 128 + 128 * high.0, high.1)) s (sym (if_false (nat_lt limit 128) _ _ (le-ltb limit 128 m)) ∙ e1)) [
+              | inr z ↦ absurd (found_not _ _ s z.2)
+              | inl z ↦
+                  let g = higher o m in
+                  within (DigitsAre (suc most) limit) (DigitsAre most (limit / 128)) (b ∷ []) (b ∷ bytes) bytes s refl
+                    (digits_complete most (limit / 128) bytes s g.1 (omega arith) p.1 z) (λ w q. ([], longer l g.0 w q))
+            ]
+          ]
+    ]
+  where
+    here : refused {A = ℕ} NotCanonical (b ∷ bytes) ≡ stopped s → Completes (DigitsAre (suc most) limit) (b ∷ bytes) s
+    here z = from_start (DigitsAre (suc most) limit) (b ∷ bytes) (1 ∷ []) s (left_of ℕ (record { code = NotCanonical; left = length (b ∷ bytes) }) s z) (one_is most limit h) (omega arith)
+
+    higher : (limit < 128) ⊎ ((limit % 128 ≡ 127) × Ones most (limit / 128)) → 128 ≤ limit → (limit % 128 ≡ 127) × Ones most (limit / 128)
+    higher (inl h) g = absurd (omega arith)
+    higher (inr h) g = h
+
+    longer : 128 ≤ b → limit % 128 ≡ 127 → (w : List ℕ) → DigitsAre most (limit / 128) w → DigitsAre (suc most) limit (b ∷ (w ++ []))
+    longer l g w q =
+        let n : ℕ = b - 128 + 128 * q.0 in
+        let high : (b - 128 + 128 * q.0) / 128 ≡ q.0 = omega (arith, p.0, l) in
+        let low : (b - 128 + 128 * q.0) % 128 + 128 ≡ b = omega (arith, p.0, l) in
+        (b - 128 + 128 * q.0, omega (arith, q.1), omega (arith, q.2, g, p.0, l),
+         digits_more most (b - 128 + 128 * q.0) (omega (arith, q.1))
+         ∙ (ap (λ x. x ∷ digits most ((b - 128 + 128 * q.0) / 128)) low ∙ (ap (λ x. b ∷ digits most x) high ∙ (ap (λ x. b ∷ x) q.3 ∙ ap (λ x. b ∷ x) (sym (append-nil w))))))
+
+abbrev pub NumberIs : List ℕ → Type 0
+NumberIs l = (n : ℕ) × (n < 2 ^ 32) × (spelled_number n ≡ l)
+
+number_complete : (bytes : List ℕ) (s : Stop) → IsBytes bytes → number_at bytes ≡ stopped s → Completes NumberIs bytes s
+unfolding number_at
+number_complete [] s p e = from_start NumberIs [] (1 ∷ []) s (left_of ℕ (record { code = Short; left = 0 }) s e) (1, omega arith, refl) (omega arith)
+number_complete (b ∷ bytes) s p e =
+    elim (cases_eq b 0) [
+      | inl z ↦ absurd (found_not 0 bytes s (sym (if_true (nat_eq b 0) _ _ (eq-eqb b 0 z)) ∙ e))
+      | inr z ↦
+          within NumberIs (DigitsAre 10 4294967295) [] (b ∷ bytes) (b ∷ bytes) s refl
+            (digits_complete 10 4294967295 (b ∷ bytes) s number_ones (omega arith) p (sym (if_false (nat_eq b 0) _ _ (ne_eqb b 0 z)) ∙ e))
+            (λ l q. ([], (q.0, omega (arith, q.2), q.3 ∙ sym (append-nil l))))
+    ]
+
+abbrev pub TextIs : List ℕ → Type 0
+TextIs l = (t : List ℕ) × (0 < length t) × (length t < 256) × (spelled_number (length t) ++ t ≡ l)
+
+-- a text of so many bytes that begins so
+text_from : (n : ℕ) (start : List ℕ) → 0 < n → n ≤ 255 → length start ≤ n → TextIs (spelled_number n ++ (start ++ replicate (n - length start) 0))
+text_from n start p q h =
+    let len : length (start ++ replicate (n - length start) 0) ≡ n = omega (arith, length-append start (replicate (n - length start) 0), length-replicate {A = ℕ} (n - length start) 0) in
+    (start ++ replicate (n - length start) 0, omega (arith, len), omega (arith, len), ap (λ k. spelled_number k ++ (start ++ replicate (n - length start) 0)) len)
+
+text_complete : (bytes : List ℕ) (s : Stop) → IsBytes bytes → text_at bytes ≡ stopped s → Completes TextIs bytes s
+unfolding text_at
+text_complete bytes s p e =
+    elim (after_err (digits_at 255 bytes) (λ n. cond (nat_lt (length n.1) n.0) short (Ok (take n.0 n.1, drop n.0 n.1))) s e) [
+      | inl z ↦
+          within TextIs (DigitsAre 10 255) [] bytes bytes s refl (digits_complete 10 255 bytes s text_ones (omega arith) p z)
+            (λ l q. (replicate (q.0 - 0) 0, subst (λ y. TextIs (y ++ replicate (q.0 - 0) 0)) q.3 (text_from q.0 [] q.1 (omega (arith, q.2)) (omega arith))))
+      | inr z ↦ elim (cases_lt (length z.0.1) z.0.0) [
+        | inl l ↦
+            let i = digits_take 10 255 bytes z.0.0 z.0.1 text_ones p z.1 in
+            record {
+              front = bytes;
+              back = [];
+              more = replicate (z.0.0 - length z.0.1) 0;
+              parts = sym (append-nil bytes);
+              left = left_of (List ℕ) (record { code = Short; left = 0 }) s (sym (if_true (nat_lt (length z.0.1) z.0.0) _ _ (lt-ltb (length z.0.1) z.0.0 l)) ∙ z.2);
+              whole = subst TextIs (sym (append_assoc (spelled_number z.0.0) z.0.1 (replicate (z.0.0 - length z.0.1) 0)) ∙ ap (λ y. y ++ replicate (z.0.0 - length z.0.1) 0) (sym i.2)) (text_from z.0.0 z.0.1 i.0 (omega (arith, i.1)) (omega arith));
+              longer = omega (arith, length-replicate {A = ℕ} (z.0.0 - length z.0.1) 0);
+            }
+        | inr l ↦ absurd (found_not _ _ s (sym (if_false (nat_lt (length z.0.1) z.0.0) _ _ (le-ltb (length z.0.1) z.0.0 l)) ∙ z.2))
+      ]
+    ]
+
+-- digits end with one
+digits_end : (most n : ℕ) → InDigits most n → (front : List ℕ) × (b : ℕ) × (digits most n ≡ front ++ (b ∷ []))
+digits_end zero n i = absurd i
+digits_end (suc most) n i =
+    elim (cases_lt n 128) [
+      | inl l ↦ ([], n, digits_last most n l)
+      | inr l ↦ let r = digits_end most (n / 128) (higher i l) in ((n % 128 + 128) ∷ r.0, r.1, digits_more most n l ∙ ap (λ z. (n % 128 + 128) ∷ z) r.2)
+    ]
+  where
+    higher : (n < 128) ⊎ InDigits most (n / 128) → 128 ≤ n → InDigits most (n / 128)
+    higher (inl h) g = absurd (omega arith)
+    higher (inr h) g = h
+
+count_complete : (bytes : List ℕ) (s : Stop) → IsBytes bytes → count_at bytes ≡ stopped s → Completes NumberIs bytes s
+unfolding count_at
+count_complete bytes s p e =
+    elim (after_err (number_at bytes) (λ n. cond (nat_lt 65536 n.0) (Err (record { code = FormLimit; left = length n.1 + 1 })) (Ok n)) s e) [
+      | inl z ↦ number_complete bytes s p z
+      | inr z ↦ elim (cases_lt 65536 z.0.0) [
+        | inl l ↦
+            let i = number_take bytes z.0.0 z.0.1 p z.1 in
+            let d = digits_end 10 z.0.0 (in_ten z.0.0 i.0) in
+            record {
+              front = d.0;
+              back = d.1 ∷ z.0.1;
+              more = d.1 ∷ [];
+              parts = i.1 ∙ (ap (λ y. y ++ z.0.1) d.2 ∙ append_assoc d.0 (d.1 ∷ []) z.0.1);
+              left = left_of ℕ (record { code = FormLimit; left = length z.0.1 + 1 }) s (sym (if_true (nat_lt 65536 z.0.0) _ _ (lt-ltb 65536 z.0.0 l)) ∙ z.2) ∙ omega arith;
+              whole = (z.0.0, i.0, d.2);
+              longer = omega arith;
+            }
+        | inr l ↦ absurd (found_not _ _ s (sym (if_false (nat_lt 65536 z.0.0) _ _ (le-ltb 65536 z.0.0 l)) ∙ z.2))
+      ]
+    ]
+
+-- ---- forms
+
+class_example : Class → Tree
+class_example Class.Term = tagged 0 nothing
+class_example Class.Evidence = tagged 0 (number 0)
+class_example Class.Stat = tagged 6 nothing
+class_example Class.Expr = tagged 2 nothing
+class_example Class.Place = tagged 1 nothing
+
+class_is : (c : Class) → IsForm (class_example c) (grammar c)
+unfolding class_example
+class_is Class.Term = search depth 40
+class_is Class.Evidence = search (arith) depth 40
+class_is Class.Stat = search depth 40
+class_is Class.Expr = search depth 40
+class_is Class.Place = search depth 40
+
+-- a short tree of a form
+example : Form → Tree
+example unit = nothing
+example (exactly c n) = byte n
+example (range low high) = byte low
+example num = number 0
+example name = text (0 ∷ [])
+example (f ▹ g) = example f ▸ example g
+example (tag n f) = tagged n (example f)
+example (alt n f g) = tagged n (example f)
+example (list f) = many end
+example (part c) = nested (class_example c)
+
+-- each range has a byte
+abbrev pub HasExample : Form → Type 0
+HasExample (range low high) = low ≤ high
+HasExample (f ▹ g) = HasExample f × HasExample g
+HasExample (tag n f) = HasExample f
+HasExample (alt n f g) = HasExample f × HasExample g
+HasExample (list f) = HasExample f
+HasExample _ = ⊤
+
+abbrev IsChosen : Option Form → Tree → Type 0
+IsChosen o x = IsSomeAnd o (λ g. IsForm x g)
+
+own_choice : (n : ℕ) (g : Form) (o : Option Form) (x : Tree) → IsForm x g → IsChosen (cond (nat_eq n n) (Some g) o) x
+own_choice n g o x p = subst (λ c. IsChosen (cond c (Some g) o) x) (sym (eq-eqb n n refl)) p
+
+example_is : (f : Form) → HasExample f → IsForm (example f) f
+unfolding example
+example_is unit h = tt
+example_is (exactly c n) h = refl
+example_is (range low high) h = (omega arith, h)
+example_is num h = omega arith
+example_is name h = (omega arith, omega arith)
+example_is (f ▹ g) h = (example_is f h.0, example_is g h.1)
+example_is (tag n f) h = own_choice n f None (example f) (example_is f h)
+example_is (alt n f g) h = own_choice n f (chosen g n) (example f) (example_is f h.0)
+example_is (list f) h = (omega arith, tt)
+example_is (part c) h = class_is c
+
+-- so many examples
+examples : Form → ℕ → Tree
+examples f zero = end
+examples f (suc n) = example f ⨾ examples f n
+
+examples_are : (f : Form) (n : ℕ) → HasExample f → AreForm (examples f n) f × (size (examples f n) ≡ n)
+unfolding examples
+examples_are f zero h = (tt, refl)
+examples_are f (suc n) h = let i = examples_are f n h in ((example_is f h, i.0), ap suc i.1)
+
+abbrev pub Is : Form → List ℕ → Type 0
+Is f l = (x : Tree) × IsForm x f × (spelling x ≡ l)
+
+abbrev pub AreItems : Form → ℕ → List ℕ → Type 0
+AreItems f n l = (x : Tree) × AreForm x f × (size x ≡ n) × (spelling x ≡ l)
+
+abbrev pub NestedComplete : ℕ → Type 0
+NestedComplete d = (c : Class) (bytes : List ℕ) (s : Stop) → IsBytes bytes → nested_at d c bytes ≡ stopped s → Completes (Is (grammar c)) bytes s
+
+-- a choice that is passed by: from the first byte on it is the other, and before it anything
+passed : (n : ℕ) (f g : Form) (b : ℕ) (bytes : List ℕ) (s : Stop) → HasExample f → (b ≡ n → ⊥) → IsChoice g → Completes (Is g) (b ∷ bytes) s → Completes (Is (alt n f g)) (b ∷ bytes) s
+unfolding example
+passed n f g b bytes s h z c r = go r.front r.parts r.whole
+  where
+    convert : (x : Tree) (l : List ℕ) → IsForm x g → spelling x ≡ b ∷ l → IsForm x (alt n f g)
+    convert x l p e = turn g c x p e
+      where
+        turn : (g : Form) → IsChoice g → (x : Tree) → IsForm x g → spelling x ≡ b ∷ l → IsForm x (alt n f g)
+        turn (tag m t) c (tagged k y) p e = let i = (heads e).0 in subst (λ o. IsChosen (cond o (Some f) (chosen (tag m t) k)) y) (sym (ne_eqb k n (λ q. z (sym i ∙ q)))) p
+        turn (alt m t u) c (tagged k y) p e = let i = (heads e).0 in subst (λ o. IsChosen (cond o (Some f) (chosen (alt m t u) k)) y) (sym (ne_eqb k n (λ q. z (sym i ∙ q)))) p
+        turn (tag m t) c _ p e = elim p [ ]
+        turn (alt m t u) c _ p e = elim p [ ]
+        turn _ c x p e = elim c [ ]
+
+    go : (front : List ℕ) → b ∷ bytes ≡ front ++ r.back → Is g (front ++ r.more) → Completes (Is (alt n f g)) (b ∷ bytes) s
+    go [] e w = from_start (Is (alt n f g)) (b ∷ bytes) (n ∷ spelling (example f)) s (r.left ∙ ap length (sym e)) (tagged n (example f), own_choice n f (chosen g n) (example f) (example_is f h), refl) (omega arith)
+    go (d ∷ front) e w =
+        let i = (heads e).0 in
+        record {
+          front = d ∷ front;
+          back = r.back;
+          more = r.more;
+          parts = e;
+          left = r.left;
+          whole = (w.0, convert w.0 (front ++ r.more) w.1 (w.2 ∙ ap (λ k. k ∷ (front ++ r.more)) (sym i)), w.2);
+          longer = r.longer;
+        }
