@@ -282,3 +282,149 @@ passed n f g b bytes s h z c r = go r.front r.parts r.whole
           whole = (w.0, convert w.0 (front ++ r.more) w.1 (w.2 ∙ ap (λ k. k ∷ (front ++ r.more)) (sym i)), w.2);
           longer = r.longer;
         }
+
+spelled_some : (n : ℕ) → 0 < length (spelled_number n)
+spelled_some n =
+    elim (cases_lt n 128) [
+      | inl l ↦ subst (λ z. 0 < length z) (sym (digits_last 9 n l)) (omega arith)
+      | inr l ↦ subst (λ z. 0 < length z) (sym (digits_more 9 n l)) (omega arith)
+    ]
+
+module _ (d : ℕ) (inner : NestedComplete d) where
+  items_complete : (f : Form) → IsSound f → HasExample f → ((bytes : List ℕ) (s : Stop) → IsBytes bytes → form_at (nested_at d) f bytes ≡ stopped s → Completes (Is f) bytes s)
+      → (n : ℕ) (bytes : List ℕ) (s : Stop) → IsBytes bytes → items_at (form_at (nested_at d) f) n bytes ≡ stopped s → Completes (AreItems f n) bytes s
+  unfolding items_at
+  items_complete f so h each zero bytes s p e = absurd (found_not end bytes s e)
+  items_complete f so h each (suc n) bytes s p e =
+      elim (after_err (form_at (nested_at d) f bytes) (λ x. after (items_at (form_at (nested_at d) f) n x.1) (λ xs. Ok (x.0 ⨾ xs.0, xs.1))) s e) [
+        | inl z ↦
+            let more = examples_are f n h in
+            within (AreItems f (suc n)) (Is f) [] bytes bytes s refl (each bytes s p z)
+              (λ l q. (spelling (examples f n), (q.0 ⨾ examples f n, (q.1, more.0), ap suc more.1, ap (λ y. y ++ spelling (examples f n)) q.2)))
+        | inr z ↦
+            let t = takes d f bytes z.0.0 z.0.1 so p z.1 in
+            elim (after_err (items_at (form_at (nested_at d) f) n z.0.1) (λ xs. Ok (z.0.0 ⨾ xs.0, xs.1)) s z.2) [
+              | inl y ↦
+                  within (AreItems f (suc n)) (AreItems f n) (spelling z.0.0) bytes z.0.1 s t.parts
+                    (items_complete f so h each n z.0.1 s (rest_bytes bytes (spelling z.0.0) z.0.1 p t.parts) y)
+                    (λ l q. ([], (z.0.0 ⨾ q.0, (t.form, q.1), ap suc q.2, ap (λ y. spelling z.0.0 ++ y) (q.3 ∙ sym (append-nil l)))))
+              | inr y ↦ absurd (found_not _ _ s y.2)
+            ]
+      ]
+
+  form_complete : (f : Form) (bytes : List ℕ) (s : Stop) → IsSound f → HasExample f → IsBytes bytes → form_at (nested_at d) f bytes ≡ stopped s → Completes (Is f) bytes s
+  unfolding form_at example
+  form_complete unit bytes s so h p e = absurd (found_not nothing bytes s e)
+  form_complete (exactly c n) [] s so h p e = from_start (Is (exactly c n)) [] (n ∷ []) s (left_of Tree (record { code = Short; left = 0 }) s e) (byte n, refl, refl) (omega arith)
+  form_complete (exactly c n) (b ∷ bytes) s so h p e =
+      elim (cases_eq b n) [
+        | inl z ↦ absurd (found_not (byte b) bytes s (sym (if_true (nat_eq b n) _ _ (eq-eqb b n z)) ∙ e))
+        | inr z ↦
+            from_start (Is (exactly c n)) (b ∷ bytes) (n ∷ []) s (left_of Tree (record { code = c; left = length (b ∷ bytes) }) s (sym (if_false (nat_eq b n) _ _ (ne_eqb b n z)) ∙ e)) (byte n, refl, refl) (omega arith)
+      ]
+  form_complete (range low high) [] s so h p e = from_start (Is (range low high)) [] (low ∷ []) s (left_of Tree (record { code = Short; left = 0 }) s e) (byte low, (omega arith, h), refl) (omega arith)
+  form_complete (range low high) (b ∷ bytes) s so h p e =
+      elim (cases_Bool (leb low b && leb b high)) [
+        | inl z ↦ absurd (found_not (byte b) bytes s (sym (if_true (nat_le low b && nat_le b high) _ _ z) ∙ e))
+        | inr z ↦
+            from_start (Is (range low high)) (b ∷ bytes) (low ∷ []) s (left_of Tree (record { code = NotCanonical; left = length (b ∷ bytes) }) s (sym (if_false (nat_le low b && nat_le b high) _ _ z) ∙ e))
+              (byte low, (omega arith, h), refl) (omega arith)
+      ]
+  form_complete num bytes s so h p e =
+      elim (after_err (number_at bytes) (λ n. Ok (number n.0, n.1)) s e) [
+        | inl z ↦ within (Is num) NumberIs [] bytes bytes s refl (number_complete bytes s p z) (λ l q. ([], (number q.0, q.1, q.2 ∙ sym (append-nil l))))
+        | inr z ↦ absurd (found_not _ _ s z.2)
+      ]
+  form_complete name bytes s so h p e =
+      elim (after_err (text_at bytes) (λ n. Ok (text n.0, n.1)) s e) [
+        | inl z ↦ within (Is name) TextIs [] bytes bytes s refl (text_complete bytes s p z) (λ l q. ([], (text q.0, (q.1, q.2), q.3 ∙ sym (append-nil l))))
+        | inr z ↦ absurd (found_not _ _ s z.2)
+      ]
+  form_complete (f ▹ g) bytes s so h p e =
+      elim (after_err (form_at (nested_at d) f bytes) (λ x. after (form_at (nested_at d) g x.1) (λ y. Ok (x.0 ▸ y.0, y.1))) s e) [
+        | inl z ↦
+            within (Is (f ▹ g)) (Is f) [] bytes bytes s refl (form_complete f bytes s so.0 h.0 p z)
+              (λ l q. (spelling (example g), (q.0 ▸ example g, (q.1, example_is g h.1), ap (λ y. y ++ spelling (example g)) q.2)))
+        | inr z ↦
+            let t = takes d f bytes z.0.0 z.0.1 so.0 p z.1 in
+            elim (after_err (form_at (nested_at d) g z.0.1) (λ y. Ok (z.0.0 ▸ y.0, y.1)) s z.2) [
+              | inl y ↦
+                  within (Is (f ▹ g)) (Is g) (spelling z.0.0) bytes z.0.1 s t.parts
+                    (form_complete g z.0.1 s so.1 h.1 (rest_bytes bytes (spelling z.0.0) z.0.1 p t.parts) y)
+                    (λ l q. ([], (z.0.0 ▸ q.0, (t.form, q.1), ap (λ y. spelling z.0.0 ++ y) (q.2 ∙ sym (append-nil l)))))
+              | inr y ↦ absurd (found_not _ _ s y.2)
+            ]
+      ]
+  form_complete (tag n f) [] s so h p e =
+      from_start (Is (tag n f)) [] (n ∷ spelling (example f)) s (left_of Tree (record { code = Short; left = 0 }) s e) (tagged n (example f), own_choice n f None (example f) (example_is f h), refl) (omega arith)
+  form_complete (tag n f) (b ∷ bytes) s so h p e =
+      elim (cases_eq b n) [
+        | inl z ↦ elim (after_err (form_at (nested_at d) f bytes) (λ x. Ok (tagged b x.0, x.1)) s (sym (if_true (nat_eq b n) _ _ (eq-eqb b n z)) ∙ e)) [
+          | inl y ↦
+              within (Is (tag n f)) (Is f) (b ∷ []) (b ∷ bytes) bytes s refl (form_complete f bytes s so h p.1 y)
+                (λ l q. ([], (tagged n q.0, own_choice n f None q.0 q.1, ap (λ k. k ∷ spelling q.0) (sym z) ∙ ap (λ y. b ∷ y) (q.2 ∙ sym (append-nil l)))))
+          | inr y ↦ absurd (found_not _ _ s y.2)
+        ]
+        | inr z ↦
+            from_start (Is (tag n f)) (b ∷ bytes) (n ∷ spelling (example f)) s (left_of Tree (record { code = NotCanonical; left = length (b ∷ bytes) }) s (sym (if_false (nat_eq b n) _ _ (ne_eqb b n z)) ∙ e))
+              (tagged n (example f), own_choice n f None (example f) (example_is f h), refl) (omega arith)
+      ]
+  form_complete (alt n f g) [] s so h p e =
+      from_start (Is (alt n f g)) [] (n ∷ spelling (example f)) s (left_of Tree (record { code = Short; left = 0 }) s e) (tagged n (example f), own_choice n f (chosen g n) (example f) (example_is f h.0), refl) (omega arith)
+  form_complete (alt n f g) (b ∷ bytes) s so h p e =
+      elim (cases_eq b n) [
+        | inl z ↦ elim (after_err (form_at (nested_at d) f bytes) (λ x. Ok (tagged b x.0, x.1)) s (sym (if_true (nat_eq b n) _ _ (eq-eqb b n z)) ∙ e)) [
+          | inl y ↦
+              within (Is (alt n f g)) (Is f) (b ∷ []) (b ∷ bytes) bytes s refl (form_complete f bytes s so.0 h.0 p.1 y)
+                (λ l q. ([], (tagged n q.0, own_choice n f (chosen g n) q.0 q.1, ap (λ k. k ∷ spelling q.0) (sym z) ∙ ap (λ y. b ∷ y) (q.2 ∙ sym (append-nil l)))))
+          | inr y ↦ absurd (found_not _ _ s y.2)
+        ]
+        | inr z ↦ passed n f g b bytes s h.0 z so.2 (form_complete g (b ∷ bytes) s so.1 h.1 p (sym (if_false (nat_eq b n) _ _ (ne_eqb b n z)) ∙ e))
+      ]
+  form_complete (list f) bytes s so h p e =
+      elim (after_err (count_at bytes) (λ n. after (items_at (form_at (nested_at d) f) n.0 n.1) (λ xs. Ok (many xs.0, xs.1))) s e) [
+        | inl z ↦
+            within (Is (list f)) NumberIs [] bytes bytes s refl (count_complete bytes s p z)
+              (λ l q.
+                let more = examples_are f q.0 h in
+                (spelling (examples f q.0), (many (examples f q.0), (omega (arith, more.1, q.1), more.0), ap (λ k. spelled_number k ++ spelling (examples f q.0)) more.1 ∙ ap (λ y. y ++ spelling (examples f q.0)) q.2)))
+        | inr z ↦
+            let i = count_take bytes z.0.0 z.0.1 p z.1 in
+            elim (after_err (items_at (form_at (nested_at d) f) z.0.0 z.0.1) (λ xs. Ok (many xs.0, xs.1)) s z.2) [
+              | inl y ↦
+                  within (Is (list f)) (AreItems f z.0.0) (spelled_number z.0.0) bytes z.0.1 s i.1
+                    (items_complete f so h (λ bytes s q v. form_complete f bytes s so h q v) z.0.0 z.0.1 s (rest_bytes bytes (spelled_number z.0.0) z.0.1 p i.1) y)
+                    (λ l q. ([], (many q.0, (omega (arith, q.2, i.0), q.1), ap (λ k. spelled_number k ++ spelling q.0) q.2 ∙ ap (λ y. spelled_number z.0.0 ++ y) (q.3 ∙ sym (append-nil l)))))
+              | inr y ↦ absurd (found_not _ _ s y.2)
+            ]
+      ]
+  form_complete (part c) bytes s so h p e =
+      elim (after_err (nested_at d c bytes) (λ x. Ok (nested x.0, x.1)) s e) [
+        | inl z ↦ within (Is (part c)) (Is (grammar c)) [] bytes bytes s refl (inner c bytes s p z) (λ l q. ([], (nested q.0, q.1, q.2 ∙ sym (append-nil l))))
+        | inr z ↦ absurd (found_not _ _ s z.2)
+      ]
+
+grammar_example : (c : Class) → HasExample (grammar c)
+grammar_example Class.Term = search (arith) depth 60
+grammar_example Class.Evidence = search (arith) depth 60
+grammar_example Class.Stat = search (arith) depth 60
+grammar_example Class.Expr = search (arith) depth 60
+grammar_example Class.Place = search (arith) depth 60
+
+class_some : (c : Class) → 0 < length (spelling (class_example c))
+unfolding class_example
+class_some Class.Term = omega arith
+class_some Class.Evidence = omega arith
+class_some Class.Stat = omega arith
+class_some Class.Expr = omega arith
+class_some Class.Place = omega arith
+
+nested_complete : (d : ℕ) → NestedComplete d
+unfolding nested_at
+nested_complete zero c [] s p e = from_start (Is (grammar c)) [] (spelling (class_example c)) s (left_of Tree (record { code = Short; left = 0 }) s e) (class_example c, class_is c, refl) (class_some c)
+nested_complete zero c (b ∷ bytes) s p e =
+    from_start (Is (grammar c)) (b ∷ bytes) (spelling (class_example c)) s (left_of Tree (record { code = FormLimit; left = length (b ∷ bytes) }) s e) (class_example c, class_is c, refl) (class_some c)
+nested_complete (suc d) c bytes s p e = form_complete d (nested_complete d) (grammar c) bytes s (grammar_sound c) (grammar_example c) p e
+
+pub completes : (d : ℕ) (f : Form) (bytes : List ℕ) (s : Stop) → IsSound f → HasExample f → IsBytes bytes → form_at (nested_at d) f bytes ≡ stopped s → Completes (Is f) bytes s
+completes d f bytes s so h p e = form_complete d (nested_complete d) f bytes s so h p e
