@@ -11,9 +11,10 @@ use Rattle.form_grammar.specs.Grammar.{Form, Class, unit, exactly, range, num, n
 use Rattle.form_grammar.specs.Numbers.{Found, after, digits_at, number_at, text_at, count_at, short, refused}
 use Rattle.form_grammar.specs.Reading.{Reader, form_at, nested_at, items_at}
 use Rattle.form_laws.specs.Forms.{IsForm, AreForm}
+use Rattle.form_laws.specs.Refusals.{IsBytes}
 use Rattle.form_laws.proofs.Same.{InDigits, in_ten, digits_last, digits_more, heads}
 use Rattle.form_laws.proofs.Again.{if_true, if_false}
-use Rattle.form_laws.proofs.Takes.{IsBytes, IsSound, IsChoice, Ones, found, stopped, never, digits_take, number_ones, text_ones, number_take, count_take, takes, rest_bytes, grammar_sound}
+use Rattle.form_laws.proofs.Takes.{IsSound, IsChoice, Ones, found, stopped, never, digits_take, number_ones, text_ones, number_take, count_take, takes, rest_bytes, grammar_sound}
 use Rattle.form_laws.proofs.Refuses.{after_err, found_not, stop_is}
 
 -- The bytes before the refused one can be completed to something of P, by at least a byte. For Short these are all bytes.

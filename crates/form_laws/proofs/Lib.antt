@@ -3,3 +3,4 @@ pub mod Again
 pub mod Takes
 pub mod Refuses
 pub mod Completes
+pub mod Refusals

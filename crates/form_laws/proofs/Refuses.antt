@@ -10,15 +10,10 @@ use Rattle.form_grammar.specs.Grammar.{Form, Class, unit, exactly, range, num, n
 use Rattle.form_grammar.specs.Numbers.{Found, after, digits_at, number_at, text_at, count_at, short, refused}
 use Rattle.form_grammar.specs.Reading.{Reader, form_at, nested_at, items_at}
 use Rattle.form_laws.specs.Forms.{IsForm, AreForm}
+use Rattle.form_laws.specs.Refusals.{IsBytes, IsWrong}
 use Rattle.form_laws.proofs.Same.{InDigits, in_ten, digits_last, digits_more, heads, number_same, same}
 use Rattle.form_laws.proofs.Again.{if_true, if_false}
-use Rattle.form_laws.proofs.Takes.{IsBytes, IsSound, IsChoice, found, stopped, never, number_take, count_take, takes, rest_bytes, grammar_sound}
-
--- a refusal of a byte that no form has there
-abbrev pub IsWrong : FormCode → Type 0
-IsWrong Short = ⊥
-IsWrong FormLimit = ⊥
-IsWrong _ = ⊤
+use Rattle.form_laws.proofs.Takes.{IsSound, IsChoice, found, stopped, never, number_take, count_take, takes, rest_bytes, grammar_sound}
 
 pub stop_is : {A : Type 0} (s t : Stop) → stopped {A = A} s ≡ stopped t → s ≡ t
 stop_is s t e = cc

@@ -127,7 +127,7 @@ inv_tagged k x f p = go (chosen f k) refl p
     go (Some g) e q = (g, e, q)
 
 -- lists of one length in front
-split_same : (s t a b : List ℕ) → length s ≡ length t → s ++ a ≡ t ++ b → (s ≡ t) × (a ≡ b)
+pub split_same : (s t a b : List ℕ) → length s ≡ length t → s ++ a ≡ t ++ b → (s ≡ t) × (a ≡ b)
 split_same [] [] a b n e = (refl, e)
 split_same [] (y ∷ t) a b n e = absurd (omega arith)
 split_same (x ∷ s) [] a b n e = absurd (omega arith)

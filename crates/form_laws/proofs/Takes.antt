@@ -11,12 +11,9 @@ use Rattle.form_grammar.specs.Grammar.{Form, Class, unit, exactly, range, num, n
 use Rattle.form_grammar.specs.Numbers.{Found, after, digits_at, number_at, text_at, count_at, short, refused}
 use Rattle.form_grammar.specs.Reading.{Reader, form_at, nested_at, items_at, behind}
 use Rattle.form_laws.specs.Forms.{IsForm, AreForm, Fits}
+use Rattle.form_laws.specs.Refusals.{IsBytes}
 use Rattle.form_laws.proofs.Same.{digits_last, digits_more}
 use Rattle.form_laws.proofs.Again.{if_true, if_false}
-
-abbrev pub IsBytes : List ℕ → Type 0
-IsBytes [] = ⊤
-IsBytes (b ∷ bytes) = (b < 256) × IsBytes bytes
 
 bytes_behind : (s t : List ℕ) → IsBytes (s ++ t) → IsBytes t
 bytes_behind [] t p = p

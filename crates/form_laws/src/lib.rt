@@ -3,4 +3,4 @@
 
 mod laws;
 
-pub use laws::one_form;
+pub use laws::{first_refusal, one_form, read_is_spelled, spelled_is_read};
