@@ -99,7 +99,7 @@ digits_complete (suc most) limit (b ∷ bytes) s o h p e =
 abbrev pub NumberIs : List ℕ → Type 0
 NumberIs l = (n : ℕ) × (n < 2 ^ 32) × (spelled_number n ≡ l)
 
-number_complete : (bytes : List ℕ) (s : Stop) → IsBytes bytes → number_at bytes ≡ stopped s → Completes NumberIs bytes s
+pub number_complete : (bytes : List ℕ) (s : Stop) → IsBytes bytes → number_at bytes ≡ stopped s → Completes NumberIs bytes s
 unfolding number_at
 number_complete [] s p e = from_start NumberIs [] (1 ∷ []) s (left_of ℕ (record { code = Short; left = 0 }) s e) (1, omega arith, refl) (omega arith)
 number_complete (b ∷ bytes) s p e =

@@ -4,3 +4,4 @@ pub mod Takes
 pub mod Refuses
 pub mod Completes
 pub mod Refusals
+pub mod Fields

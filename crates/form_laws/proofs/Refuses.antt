@@ -144,7 +144,7 @@ digits_refuse most limit (b ∷ bytes) s p e w =
 abbrev pub Numbers : List ℕ → Type 0
 Numbers l = (n : ℕ) × (r : List ℕ) × (n < 2 ^ 32) × (spelled_number n ++ r ≡ l)
 
-number_refuse : (bytes : List ℕ) (s : Stop) → IsBytes bytes → number_at bytes ≡ stopped s → IsWrong s.code → Refuses Numbers bytes s
+pub number_refuse : (bytes : List ℕ) (s : Stop) → IsBytes bytes → number_at bytes ≡ stopped s → IsWrong s.code → Refuses Numbers bytes s
 unfolding number_at
 number_refuse [] s p e w = absurd (not_wrong {A = ℕ} (record { code = Short; left = 0 }) s e (λ z. z) w)
 number_refuse (b ∷ bytes) s p e w =
