@@ -22,7 +22,6 @@ pub data Form : Type 0 where
   part : Class → Form
 
 infixr 20 ◌▹◌
-
 -- nothing, or what the form says
 abbrev pub opt : Form → Form
 opt f = alt 0 unit (tag 1 f)

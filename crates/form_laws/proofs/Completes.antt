@@ -1,20 +1,19 @@
 -- The bytes before a refusal can be completed.
-use Rattle.std.proofs.Common.{◌≡◌, ℕ, zero, suc, ◌+◌, ◌-◌, ◌*◌, ◌/◌, ◌%◌, ◌^◌, ◌<◌, ◌≤◌, ◌⊎◌, inl, inr, Bool, true, false, not, ◌&&◌, Option, Some, None, List, [], ◌∷◌, ◌++◌, length, take, drop, replicate, Result, Ok, Err, cond, ltb, leb, eqb, refl, sym, ap, subst, ◌∙◌, append_assoc, arith}
+use Rattle.std.proofs.Common.{◌≡◌, ℕ, zero, suc, ◌+◌, ◌-◌, ◌*◌, ◌/◌, ◌%◌, ◌^◌, ◌<◌, ◌≤◌, ◌⊎◌, inl, inr, not, ◌&&◌, Option, Some, None, List, [], ◌∷◌, ◌++◌, length, take, drop, replicate, Ok, Err, cond, leb, eqb, refl, sym, ap, subst, ◌∙◌, append_assoc, arith}
 use Rattle.std.specs.Prelude.{nat_eq, nat_lt, nat_le, ⊤, IsSomeAnd}
 use Rattle.std.proofs.lemmas.Bool.{cases_lt, cases_eq, cases_Bool, lt-ltb, le-ltb, ne_eqb, eq-eqb}
 use Rattle.std.proofs.lemmas.List.{append-nil, length-append, length-replicate}
-use Rattle.form_grammar.specs.declared.codes.FormCode.{FormCode}
 use Rattle.form_grammar.specs.declared.codes.FormCode.TheVariants.{Short, NotCanonical, FormLimit}
 use Rattle.form_grammar.specs.declared.codes.Stop.{Stop}
 use Rattle.form_grammar.specs.Trees.{Tree, nothing, byte, number, text, ◌▸◌, tagged, nested, many, end, ◌⨾◌, size, spelling, spelled_number, digits}
 use Rattle.form_grammar.specs.Grammar.{Form, Class, unit, exactly, range, num, name, ◌▹◌, tag, alt, list, part, chosen, grammar}
-use Rattle.form_grammar.specs.Numbers.{Found, after, digits_at, number_at, text_at, count_at, short, refused}
-use Rattle.form_grammar.specs.Reading.{Reader, form_at, nested_at, items_at}
+use Rattle.form_grammar.specs.Numbers.{after, digits_at, number_at, text_at, count_at, short, refused}
+use Rattle.form_grammar.specs.Reading.{form_at, nested_at, items_at}
 use Rattle.form_laws.specs.Forms.{IsForm, AreForm}
 use Rattle.form_laws.specs.Refusals.{IsBytes}
 use Rattle.form_laws.proofs.Same.{InDigits, in_ten, digits_last, digits_more, heads}
 use Rattle.form_laws.proofs.Again.{if_true, if_false}
-use Rattle.form_laws.proofs.Takes.{IsSound, IsChoice, Ones, found, stopped, never, digits_take, number_ones, text_ones, number_take, count_take, takes, rest_bytes, grammar_sound}
+use Rattle.form_laws.proofs.Takes.{IsSound, IsChoice, Ones, stopped, digits_take, number_ones, text_ones, number_take, count_take, takes, rest_bytes, grammar_sound}
 use Rattle.form_laws.proofs.Refuses.{after_err, found_not, stop_is}
 
 -- The bytes before the refused one can be completed to something of P, by at least a byte. For Short these are all bytes.
@@ -75,7 +74,7 @@ digits_complete (suc most) limit (b ∷ bytes) s o h p e =
               | inl z ↦
                   let g = higher o m in
                   within (DigitsAre (suc most) limit) (DigitsAre most (limit / 128)) (b ∷ []) (b ∷ bytes) bytes s refl
-                    (digits_complete most (limit / 128) bytes s g.1 (omega arith) p.1 z) (λ w q. ([], longer l g.0 w q))
+                  (digits_complete most (limit / 128) bytes s g.1 (omega arith) p.1 z) (λ w q. ([], longer l g.0 w q))
             ]
           ]
     ]
@@ -91,10 +90,13 @@ digits_complete (suc most) limit (b ∷ bytes) s o h p e =
     longer l g w q =
         let n : ℕ = b - 128 + 128 * q.0 in
         let high : (b - 128 + 128 * q.0) / 128 ≡ q.0 = omega (arith, p.0, l) in
-        let low : (b - 128 + 128 * q.0) % 128 + 128 ≡ b = omega (arith, p.0, l) in
-        (b - 128 + 128 * q.0, omega (arith, q.1), omega (arith, q.2, g, p.0, l),
-         digits_more most (b - 128 + 128 * q.0) (omega (arith, q.1))
-         ∙ (ap (λ x. x ∷ digits most ((b - 128 + 128 * q.0) / 128)) low ∙ (ap (λ x. b ∷ digits most x) high ∙ (ap (λ x. b ∷ x) q.3 ∙ ap (λ x. b ∷ x) (sym (append-nil w))))))
+        let low : (b - 128 + 128 * q.0) % 128 + 128 ≡ b = omega (arith, p.0, l) in (
+          b - 128 + 128 * q.0,
+          omega (arith, q.1),
+          omega (arith, q.2, g, p.0, l),
+          digits_more most (b - 128 + 128 * q.0) (omega (arith, q.1))
+              ∙ (ap (λ x. x ∷ digits most ((b - 128 + 128 * q.0) / 128)) low ∙ (ap (λ x. b ∷ digits most x) high ∙ (ap (λ x. b ∷ x) q.3 ∙ ap (λ x. b ∷ x) (sym (append-nil w))))),
+        )
 
 abbrev pub NumberIs : List ℕ → Type 0
 NumberIs l = (n : ℕ) × (n < 2 ^ 32) × (spelled_number n ≡ l)
@@ -107,8 +109,8 @@ number_complete (b ∷ bytes) s p e =
       | inl z ↦ absurd (found_not 0 bytes s (sym (if_true (nat_eq b 0) _ _ (eq-eqb b 0 z)) ∙ e))
       | inr z ↦
           within NumberIs (DigitsAre 10 4294967295) [] (b ∷ bytes) (b ∷ bytes) s refl
-            (digits_complete 10 4294967295 (b ∷ bytes) s number_ones (omega arith) p (sym (if_false (nat_eq b 0) _ _ (ne_eqb b 0 z)) ∙ e))
-            (λ l q. ([], (q.0, omega (arith, q.2), q.3 ∙ sym (append-nil l))))
+          (digits_complete 10 4294967295 (b ∷ bytes) s number_ones (omega arith) p (sym (if_false (nat_eq b 0) _ _ (ne_eqb b 0 z)) ∙ e))
+          (λ l q. ([], (q.0, omega (arith, q.2), q.3 ∙ sym (append-nil l))))
     ]
 
 abbrev pub TextIs : List ℕ → Type 0
@@ -126,7 +128,7 @@ text_complete bytes s p e =
     elim (after_err (digits_at 255 bytes) (λ n. cond (nat_lt (length n.1) n.0) short (Ok (take n.0 n.1, drop n.0 n.1))) s e) [
       | inl z ↦
           within TextIs (DigitsAre 10 255) [] bytes bytes s refl (digits_complete 10 255 bytes s text_ones (omega arith) p z)
-            (λ l q. (replicate (q.0 - 0) 0, subst (λ y. TextIs (y ++ replicate (q.0 - 0) 0)) q.3 (text_from q.0 [] q.1 (omega (arith, q.2)) (omega arith))))
+          (λ l q. (replicate (q.0 - 0) 0, subst (λ y. TextIs (y ++ replicate (q.0 - 0) 0)) q.3 (text_from q.0 [] q.1 (omega (arith, q.2)) (omega arith))))
       | inr z ↦ elim (cases_lt (length z.0.1) z.0.0) [
         | inl l ↦
             let i = digits_take 10 255 bytes z.0.0 z.0.1 text_ones p z.1 in
@@ -301,14 +303,14 @@ module _ (d : ℕ) (inner : NestedComplete d) where
         | inl z ↦
             let more = examples_are f n h in
             within (AreItems f (suc n)) (Is f) [] bytes bytes s refl (each bytes s p z)
-              (λ l q. (spelling (examples f n), (q.0 ⨾ examples f n, (q.1, more.0), ap suc more.1, ap (λ y. y ++ spelling (examples f n)) q.2)))
+            (λ l q. (spelling (examples f n), (q.0 ⨾ examples f n, (q.1, more.0), ap suc more.1, ap (λ y. y ++ spelling (examples f n)) q.2)))
         | inr z ↦
             let t = takes d f bytes z.0.0 z.0.1 so p z.1 in
             elim (after_err (items_at (form_at (nested_at d) f) n z.0.1) (λ xs. Ok (z.0.0 ⨾ xs.0, xs.1)) s z.2) [
               | inl y ↦
                   within (AreItems f (suc n)) (AreItems f n) (spelling z.0.0) bytes z.0.1 s t.parts
-                    (items_complete f so h each n z.0.1 s (rest_bytes bytes (spelling z.0.0) z.0.1 p t.parts) y)
-                    (λ l q. ([], (z.0.0 ⨾ q.0, (t.form, q.1), ap suc q.2, ap (λ y. spelling z.0.0 ++ y) (q.3 ∙ sym (append-nil l)))))
+                  (items_complete f so h each n z.0.1 s (rest_bytes bytes (spelling z.0.0) z.0.1 p t.parts) y)
+                  (λ l q. ([], (z.0.0 ⨾ q.0, (t.form, q.1), ap suc q.2, ap (λ y. spelling z.0.0 ++ y) (q.3 ∙ sym (append-nil l)))))
               | inr y ↦ absurd (found_not _ _ s y.2)
             ]
       ]
@@ -329,7 +331,7 @@ module _ (d : ℕ) (inner : NestedComplete d) where
         | inl z ↦ absurd (found_not (byte b) bytes s (sym (if_true (nat_le low b && nat_le b high) _ _ z) ∙ e))
         | inr z ↦
             from_start (Is (range low high)) (b ∷ bytes) (low ∷ []) s (left_of Tree (record { code = NotCanonical; left = length (b ∷ bytes) }) s (sym (if_false (nat_le low b && nat_le b high) _ _ z) ∙ e))
-              (byte low, (omega arith, h), refl) (omega arith)
+            (byte low, (omega arith, h), refl) (omega arith)
       ]
   form_complete num bytes s so h p e =
       elim (after_err (number_at bytes) (λ n. Ok (number n.0, n.1)) s e) [
@@ -345,14 +347,14 @@ module _ (d : ℕ) (inner : NestedComplete d) where
       elim (after_err (form_at (nested_at d) f bytes) (λ x. after (form_at (nested_at d) g x.1) (λ y. Ok (x.0 ▸ y.0, y.1))) s e) [
         | inl z ↦
             within (Is (f ▹ g)) (Is f) [] bytes bytes s refl (form_complete f bytes s so.0 h.0 p z)
-              (λ l q. (spelling (example g), (q.0 ▸ example g, (q.1, example_is g h.1), ap (λ y. y ++ spelling (example g)) q.2)))
+            (λ l q. (spelling (example g), (q.0 ▸ example g, (q.1, example_is g h.1), ap (λ y. y ++ spelling (example g)) q.2)))
         | inr z ↦
             let t = takes d f bytes z.0.0 z.0.1 so.0 p z.1 in
             elim (after_err (form_at (nested_at d) g z.0.1) (λ y. Ok (z.0.0 ▸ y.0, y.1)) s z.2) [
               | inl y ↦
                   within (Is (f ▹ g)) (Is g) (spelling z.0.0) bytes z.0.1 s t.parts
-                    (form_complete g z.0.1 s so.1 h.1 (rest_bytes bytes (spelling z.0.0) z.0.1 p t.parts) y)
-                    (λ l q. ([], (z.0.0 ▸ q.0, (t.form, q.1), ap (λ y. spelling z.0.0 ++ y) (q.2 ∙ sym (append-nil l)))))
+                  (form_complete g z.0.1 s so.1 h.1 (rest_bytes bytes (spelling z.0.0) z.0.1 p t.parts) y)
+                  (λ l q. ([], (z.0.0 ▸ q.0, (t.form, q.1), ap (λ y. spelling z.0.0 ++ y) (q.2 ∙ sym (append-nil l)))))
               | inr y ↦ absurd (found_not _ _ s y.2)
             ]
       ]
@@ -363,12 +365,12 @@ module _ (d : ℕ) (inner : NestedComplete d) where
         | inl z ↦ elim (after_err (form_at (nested_at d) f bytes) (λ x. Ok (tagged b x.0, x.1)) s (sym (if_true (nat_eq b n) _ _ (eq-eqb b n z)) ∙ e)) [
           | inl y ↦
               within (Is (tag n f)) (Is f) (b ∷ []) (b ∷ bytes) bytes s refl (form_complete f bytes s so h p.1 y)
-                (λ l q. ([], (tagged n q.0, own_choice n f None q.0 q.1, ap (λ k. k ∷ spelling q.0) (sym z) ∙ ap (λ y. b ∷ y) (q.2 ∙ sym (append-nil l)))))
+              (λ l q. ([], (tagged n q.0, own_choice n f None q.0 q.1, ap (λ k. k ∷ spelling q.0) (sym z) ∙ ap (λ y. b ∷ y) (q.2 ∙ sym (append-nil l)))))
           | inr y ↦ absurd (found_not _ _ s y.2)
         ]
         | inr z ↦
             from_start (Is (tag n f)) (b ∷ bytes) (n ∷ spelling (example f)) s (left_of Tree (record { code = NotCanonical; left = length (b ∷ bytes) }) s (sym (if_false (nat_eq b n) _ _ (ne_eqb b n z)) ∙ e))
-              (tagged n (example f), own_choice n f None (example f) (example_is f h), refl) (omega arith)
+            (tagged n (example f), own_choice n f None (example f) (example_is f h), refl) (omega arith)
       ]
   form_complete (alt n f g) [] s so h p e =
       from_start (Is (alt n f g)) [] (n ∷ spelling (example f)) s (left_of Tree (record { code = Short; left = 0 }) s e) (tagged n (example f), own_choice n f (chosen g n) (example f) (example_is f h.0), refl) (omega arith)
@@ -377,7 +379,7 @@ module _ (d : ℕ) (inner : NestedComplete d) where
         | inl z ↦ elim (after_err (form_at (nested_at d) f bytes) (λ x. Ok (tagged b x.0, x.1)) s (sym (if_true (nat_eq b n) _ _ (eq-eqb b n z)) ∙ e)) [
           | inl y ↦
               within (Is (alt n f g)) (Is f) (b ∷ []) (b ∷ bytes) bytes s refl (form_complete f bytes s so.0 h.0 p.1 y)
-                (λ l q. ([], (tagged n q.0, own_choice n f (chosen g n) q.0 q.1, ap (λ k. k ∷ spelling q.0) (sym z) ∙ ap (λ y. b ∷ y) (q.2 ∙ sym (append-nil l)))))
+              (λ l q. ([], (tagged n q.0, own_choice n f (chosen g n) q.0 q.1, ap (λ k. k ∷ spelling q.0) (sym z) ∙ ap (λ y. b ∷ y) (q.2 ∙ sym (append-nil l)))))
           | inr y ↦ absurd (found_not _ _ s y.2)
         ]
         | inr z ↦ passed n f g b bytes s h.0 z so.2 (form_complete g (b ∷ bytes) s so.1 h.1 p (sym (if_false (nat_eq b n) _ _ (ne_eqb b n z)) ∙ e))
@@ -386,16 +388,16 @@ module _ (d : ℕ) (inner : NestedComplete d) where
       elim (after_err (count_at bytes) (λ n. after (items_at (form_at (nested_at d) f) n.0 n.1) (λ xs. Ok (many xs.0, xs.1))) s e) [
         | inl z ↦
             within (Is (list f)) NumberIs [] bytes bytes s refl (count_complete bytes s p z)
-              (λ l q.
-                let more = examples_are f q.0 h in
-                (spelling (examples f q.0), (many (examples f q.0), (omega (arith, more.1, q.1), more.0), ap (λ k. spelled_number k ++ spelling (examples f q.0)) more.1 ∙ ap (λ y. y ++ spelling (examples f q.0)) q.2)))
+            (λ l q.
+            let more = examples_are f q.0 h in
+            (spelling (examples f q.0), (many (examples f q.0), (omega (arith, more.1, q.1), more.0), ap (λ k. spelled_number k ++ spelling (examples f q.0)) more.1 ∙ ap (λ y. y ++ spelling (examples f q.0)) q.2)))
         | inr z ↦
             let i = count_take bytes z.0.0 z.0.1 p z.1 in
             elim (after_err (items_at (form_at (nested_at d) f) z.0.0 z.0.1) (λ xs. Ok (many xs.0, xs.1)) s z.2) [
               | inl y ↦
                   within (Is (list f)) (AreItems f z.0.0) (spelled_number z.0.0) bytes z.0.1 s i.1
-                    (items_complete f so h (λ bytes s q v. form_complete f bytes s so h q v) z.0.0 z.0.1 s (rest_bytes bytes (spelled_number z.0.0) z.0.1 p i.1) y)
-                    (λ l q. ([], (many q.0, (omega (arith, q.2, i.0), q.1), ap (λ k. spelled_number k ++ spelling q.0) q.2 ∙ ap (λ y. spelled_number z.0.0 ++ y) (q.3 ∙ sym (append-nil l)))))
+                  (items_complete f so h (λ bytes s q v. form_complete f bytes s so h q v) z.0.0 z.0.1 s (rest_bytes bytes (spelled_number z.0.0) z.0.1 p i.1) y)
+                  (λ l q. ([], (many q.0, (omega (arith, q.2, i.0), q.1), ap (λ k. spelled_number k ++ spelling q.0) q.2 ∙ ap (λ y. spelled_number z.0.0 ++ y) (q.3 ∙ sym (append-nil l)))))
               | inr y ↦ absurd (found_not _ _ s y.2)
             ]
       ]

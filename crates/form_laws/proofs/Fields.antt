@@ -1,18 +1,17 @@
 -- One number, and where reading it stops.
-use Rattle.std.proofs.Common.{◌≡◌, ℕ, zero, suc, ◌+◌, ◌-◌, ◌*◌, ◌/◌, ◌<◌, ◌≤◌, ◌^◌, ◌⊎◌, inl, inr, Bool, true, false, not, ◌&&◌, List, [], ◌∷◌, ◌++◌, length, take, drop, get_or, Result, Ok, Err, cond, ltb, leb, eqb, refl, sym, ap, subst, ◌∙◌, append_assoc, arith}
-use Rattle.std.specs.Prelude.{nat_eq, nat_lt, nat_le, ⊤}
+use Rattle.std.proofs.Common.{◌≡◌, ℕ, zero, suc, ◌+◌, ◌-◌, ◌*◌, ◌/◌, ◌<◌, ◌⊎◌, inl, inr, not, ◌&&◌, List, [], ◌∷◌, ◌++◌, length, drop, get_or, Ok, leb, eqb, refl, sym, ap, subst, ◌∙◌, append_assoc, arith}
+use Rattle.std.specs.Prelude.{nat_eq, nat_lt, nat_le}
 use Rattle.std.proofs.lemmas.Bool.{cases_lt, cases_eq, cases_Bool, lt-ltb, le-ltb, ne_eqb, eq-eqb}
-use Rattle.std.proofs.lemmas.List.{append-nil, length-append, get_or-drop}
-use Rattle.form_grammar.specs.declared.codes.FormCode.{FormCode}
+use Rattle.std.proofs.lemmas.List.{append-nil, length-append}
 use Rattle.form_grammar.specs.declared.codes.FormCode.TheVariants.{Short, NotCanonical}
 use Rattle.form_grammar.specs.declared.codes.Stop.{Stop}
 use Rattle.form_grammar.specs.Trees.{spelled_number}
-use Rattle.form_grammar.specs.Numbers.{Found, after, digits_at, number_at, short, refused}
+use Rattle.form_grammar.specs.Numbers.{digits_at, number_at, refused}
 use Rattle.form_laws.specs.Refusals.{IsBytes, IsWrong}
 use Rattle.form_laws.specs.Fields.{NumberGoesOn, NumberIsCut}
 use Rattle.form_laws.proofs.Same.{split_same}
 use Rattle.form_laws.proofs.Again.{if_true, if_false}
-use Rattle.form_laws.proofs.Takes.{found, stopped, number_take}
+use Rattle.form_laws.proofs.Takes.{stopped}
 use Rattle.form_laws.proofs.Refuses.{after_err, found_not, stop_is, number_refuse}
 use Rattle.form_laws.proofs.Completes.{number_complete}
 
@@ -25,7 +24,7 @@ EndsOrWrong s = (s ≡ at_end) ⊎ (s.code ≡ NotCanonical)
 wrong_here : (bytes : List ℕ) (s : Stop) → refused {A = ℕ} NotCanonical bytes ≡ stopped s → EndsOrWrong s
 wrong_here bytes s e = inr (ap (λ z. z.code) (sym (stop_is {A = ℕ} (record { code = NotCanonical; left = length bytes }) s e)))
 
-digits_codes : (limit : ℕ) (bytes : List ℕ) (s : Stop) → digits_at limit bytes ≡ stopped s → EndsOrWrong s
+pub digits_codes : (limit : ℕ) (bytes : List ℕ) (s : Stop) → digits_at limit bytes ≡ stopped s → EndsOrWrong s
 unfolding digits_at
 digits_codes limit [] s e = inl (sym (stop_is {A = ℕ} at_end s e))
 digits_codes limit (b ∷ bytes) s e =
@@ -85,6 +84,12 @@ number_stops bytes s p e k =
     let c = number_complete bytes s p e in
     let r = number_refuse bytes s p e (subst (λ z. IsWrong z) (sym k) tt) in
     let n : length c.front ≡ length r.front = omega (arith, ap length c.parts, ap length r.parts, length-append c.front c.back, length-append r.front (r.b ∷ r.back), c.left, r.left) in
-    let t = split_same c.front r.front c.back (r.b ∷ r.back) n (sym c.parts ∙ r.parts) in
-    (r.front, r.b, r.back, r.parts, r.left, (c.whole.0, c.more, c.whole.1, c.whole.2 ∙ ap (λ z. z ++ c.more) t.0),
-     λ g. r.none g.1 (g.0, [], g.2, append-nil (spelled_number g.0) ∙ (g.3 ∙ append_assoc r.front (r.b ∷ []) g.1)))
+    let t = split_same c.front r.front c.back (r.b ∷ r.back) n (sym c.parts ∙ r.parts) in (
+      r.front,
+      r.b,
+      r.back,
+      r.parts,
+      r.left,
+      (c.whole.0, c.more, c.whole.1, c.whole.2 ∙ ap (λ z. z ++ c.more) t.0),
+      λ g. r.none g.1 (g.0, [], g.2, append-nil (spelled_number g.0) ∙ (g.3 ∙ append_assoc r.front (r.b ∷ []) g.1)),
+    )

@@ -5,3 +5,4 @@ pub mod Refuses
 pub mod Completes
 pub mod Refusals
 pub mod Fields
+pub mod Ends

@@ -3,7 +3,7 @@ use Rattle.std.specs.Prelude.{◌≡◌, ℕ, ◌<◌, ⊤, List, [], ◌∷◌,
 use Rattle.form_grammar.specs.declared.codes.FormCode.{FormCode}
 use Rattle.form_grammar.specs.declared.codes.FormCode.TheVariants.{Short, BadMagic, BadVersion, NotCanonical, Trailing, NotTyped, FormLimit, WrongName}
 use Rattle.form_grammar.specs.declared.codes.Stop.{Stop}
-use Rattle.form_laws.specs.Forms.{GoesOn}
+use Rattle.form_laws.specs.Forms.{GoesOn, IsCut}
 
 abbrev pub IsBytes : List ℕ → Type 0
 IsBytes [] = ⊤
@@ -20,12 +20,13 @@ IsWrong Trailing = ⊤
 IsWrong NotTyped = ⊤
 IsWrong WrongName = ⊤
 
--- The bytes stop there: those before are the beginning of a stored module, and a byte that is blamed is one
--- with which they are no beginning of any.
+-- Reading the bytes stops there. Those before are a stored module but for its end; where the code says that
+-- they end too early, they are all; and with a byte that is blamed no stored module begins so.
 pub record StopsAt (bytes : List ℕ) (s : Stop) : Type 0 where
   pub front : List ℕ
   pub back : List ℕ
   pub parts : bytes ≡ front ++ back
   pub left : s.left ≡ length back
-  pub before : GoesOn front
+  pub before : IsCut front
+  pub ends : s.code ≡ Short → back ≡ []
   pub here : IsWrong s.code → (b : ℕ) × (rest : List ℕ) × (back ≡ b ∷ rest) × (GoesOn (front ++ b ∷ []) → ⊥)

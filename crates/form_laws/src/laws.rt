@@ -11,24 +11,20 @@ ghost use Rattle.form_laws.specs.Refusals.{IsBytes, StopsAt};
 /// No stored module begins another, and each is of one tree.
 pub fn one_form()
     ensures { (x y : Tree) (a b : List ℕ) → IsForm x module_form → IsForm y module_form → spelling x ++ a ≡ spelling y ++ b → (x ≡ y) × (a ≡ b) }
-{
-}
+{}
 
 /// What is read is a module of the grammar within the limits, and was spelled so.
 pub fn read_is_spelled()
     ensures { (bytes rest : List ℕ) (x : Tree) → IsBytes bytes → form_at (nested_at 128) module_form bytes ≡ Ok (x, rest)
         → IsForm x module_form × Fits x 128 × (bytes ≡ spelling x ++ rest) }
-{
-}
+{}
 
 /// What is spelled within the limits is read, whatever follows.
 pub fn spelled_is_read()
     ensures { (x : Tree) (rest : List ℕ) → IsForm x module_form → Fits x 128 → form_at (nested_at 128) module_form (spelling x ++ rest) ≡ Ok (x, rest) }
-{
-}
+{}
 
 /// Reading stops at the first byte after which no stored module goes on, at the end or at a limit.
 pub fn first_refusal()
     ensures { (bytes : List ℕ) (s : Stop) → IsBytes bytes → form_at (nested_at 128) module_form bytes ≡ Err s → StopsAt bytes s }
-{
-}
+{}

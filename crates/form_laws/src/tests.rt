@@ -15,6 +15,12 @@ fn three_hundred(rt: HostRuntime) -> Result<(), Fail> {
 fn no_longer_spelling(rt: HostRuntime) {
     assert_eq!(rt; num_at(&[0x80, 0x00], 0), Err(FieldFault::Wrong(1)));
     assert_eq!(rt; num_at(&[0x80], 0), Err(FieldFault::Short));
-    assert_eq!(rt; num_at(&[0xFF, 0xFF, 0xFF, 0xFF, 0x0F], 0), Ok((4_294_967_295, 5)));
-    assert_eq!(rt; num_at(&[0xFF, 0xFF, 0xFF, 0xFF, 0x10], 0), Err(FieldFault::Wrong(4)));
+    assert_eq!(rt;
+        num_at(&[0xFF, 0xFF, 0xFF, 0xFF, 0x0F], 0),
+        Ok((4_294_967_295, 5))
+    );
+    assert_eq!(rt;
+        num_at(&[0xFF, 0xFF, 0xFF, 0xFF, 0x10], 0),
+        Err(FieldFault::Wrong(4))
+    );
 }

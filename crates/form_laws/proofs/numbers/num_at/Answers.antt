@@ -1,8 +1,7 @@
-use Rattle.std.proofs.Common.{◌≡◌, ℕ, ◌<◌, ◌+◌, ◌-◌, List, ◌∷◌, length, drop, get_or, Ok, Err, sym, ap, ◌∙◌, inl, inr, arith}
+use Rattle.std.proofs.Common.{◌≡◌, ◌+◌, ◌-◌, ◌∷◌, length, drop, Err, sym, ap, ◌∙◌, inl, inr, arith}
 use Rattle.std.proofs.lemmas.List.{length-append, length-drop, take_rest}
 use Rattle.form_grammar.specs.Trees.{spelled_number}
 use Rattle.form_grammar.specs.Numbers.{number_at}
-use Rattle.form_laws.specs.Refusals.{IsBytes}
 use Rattle.form_laws.proofs.Takes.{number_take}
 use Rattle.form_laws.proofs.Fields.{bytes_from, bytes_past, number_codes, number_ends, number_stops}
 use Rattle.form_laws.proofs.numbers.num_at.Goals as goal
