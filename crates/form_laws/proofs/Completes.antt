@@ -146,7 +146,7 @@ text_complete bytes s p e =
     ]
 
 -- digits end with one
-digits_end : (most n : ℕ) → InDigits most n → (front : List ℕ) × (b : ℕ) × (digits most n ≡ front ++ (b ∷ []))
+pub digits_end : (most n : ℕ) → InDigits most n → (front : List ℕ) × (b : ℕ) × (digits most n ≡ front ++ (b ∷ []))
 digits_end zero n i = absurd i
 digits_end (suc most) n i =
     elim (cases_lt n 128) [
@@ -182,14 +182,14 @@ count_complete bytes s p e =
 
 -- ---- forms
 
-class_example : Class → Tree
+pub class_example : Class → Tree
 class_example Class.Term = tagged 0 nothing
 class_example Class.Evidence = tagged 0 (number 0)
 class_example Class.Stat = tagged 6 nothing
 class_example Class.Expr = tagged 2 nothing
 class_example Class.Place = tagged 1 nothing
 
-class_is : (c : Class) → IsForm (class_example c) (grammar c)
+pub class_is : (c : Class) → IsForm (class_example c) (grammar c)
 unfolding class_example
 class_is Class.Term = search depth 40
 class_is Class.Evidence = search (arith) depth 40
@@ -198,7 +198,7 @@ class_is Class.Expr = search depth 40
 class_is Class.Place = search depth 40
 
 -- a short tree of a form
-example : Form → Tree
+pub example : Form → Tree
 example unit = nothing
 example (exactly c n) = byte n
 example (range low high) = byte low
@@ -219,13 +219,13 @@ HasExample (alt n f g) = HasExample f × HasExample g
 HasExample (list f) = HasExample f
 HasExample _ = ⊤
 
-abbrev IsChosen : Option Form → Tree → Type 0
+abbrev pub IsChosen : Option Form → Tree → Type 0
 IsChosen o x = IsSomeAnd o (λ g. IsForm x g)
 
-own_choice : (n : ℕ) (g : Form) (o : Option Form) (x : Tree) → IsForm x g → IsChosen (cond (nat_eq n n) (Some g) o) x
+pub own_choice : (n : ℕ) (g : Form) (o : Option Form) (x : Tree) → IsForm x g → IsChosen (cond (nat_eq n n) (Some g) o) x
 own_choice n g o x p = subst (λ c. IsChosen (cond c (Some g) o) x) (sym (eq-eqb n n refl)) p
 
-example_is : (f : Form) → HasExample f → IsForm (example f) f
+pub example_is : (f : Form) → HasExample f → IsForm (example f) f
 unfolding example
 example_is unit h = tt
 example_is (exactly c n) h = refl
@@ -239,11 +239,11 @@ example_is (list f) h = (omega arith, tt)
 example_is (part c) h = class_is c
 
 -- so many examples
-examples : Form → ℕ → Tree
+pub examples : Form → ℕ → Tree
 examples f zero = end
 examples f (suc n) = example f ⨾ examples f n
 
-examples_are : (f : Form) (n : ℕ) → HasExample f → AreForm (examples f n) f × (size (examples f n) ≡ n)
+pub examples_are : (f : Form) (n : ℕ) → HasExample f → AreForm (examples f n) f × (size (examples f n) ≡ n)
 unfolding examples
 examples_are f zero h = (tt, refl)
 examples_are f (suc n) h = let i = examples_are f n h in ((example_is f h, i.0), ap suc i.1)
@@ -407,7 +407,7 @@ module _ (d : ℕ) (inner : NestedComplete d) where
         | inr z ↦ absurd (found_not _ _ s z.2)
       ]
 
-grammar_example : (c : Class) → HasExample (grammar c)
+pub grammar_example : (c : Class) → HasExample (grammar c)
 grammar_example Class.Term = search (arith) depth 60
 grammar_example Class.Evidence = search (arith) depth 60
 grammar_example Class.Stat = search (arith) depth 60

@@ -148,7 +148,7 @@ module _ (d : ℕ) (inner : NestedEnds d) where
         | inr z ↦ absurd (found_not _ _ s z.2)
       ]
 
-grammar_coded : (c : Class) → IsCoded (grammar c)
+pub grammar_coded : (c : Class) → IsCoded (grammar c)
 grammar_coded Class.Term = search depth 60
 grammar_coded Class.Evidence = search depth 60
 grammar_coded Class.Stat = search depth 60

@@ -6,3 +6,4 @@ pub mod Completes
 pub mod Refusals
 pub mod Fields
 pub mod Ends
+pub mod Limits

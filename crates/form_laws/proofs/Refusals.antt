@@ -12,6 +12,8 @@ use Rattle.form_laws.proofs.Takes.{IsSound, stopped}
 use Rattle.form_laws.proofs.Refuses.{Refuses, Reads, refuses}
 use Rattle.form_laws.proofs.Ends.{IsCoded, ends}
 use Rattle.form_laws.proofs.Completes.{HasExample, completes}
+use Rattle.form_laws.specs.Limits.{LimitAt}
+use Rattle.form_laws.proofs.Limits.{IsLimit, limits}
 
 pub module_sound : IsSound module_form
 module_sound = search depth 80
@@ -45,3 +47,21 @@ module_stops bytes s p e =
 
     none_goes : (front front2 : List ℕ) (b : ℕ) (r : Refuses (Reads module_form) bytes s) → front ≡ r.front → GoesOn (front ++ r.b ∷ []) → ⊥
     none_goes front front2 b r t g = r.none g.0 (g.1.0, [], g.1.1, append-nil (spelling g.1.0) ∙ (sym g.1.2 ∙ (append_assoc front (r.b ∷ []) g.0 ∙ ap (λ z. z ++ (r.b ∷ g.0)) t)))
+
+pub module_limit : (bytes : List ℕ) (s : Stop) → IsBytes bytes → form_at (nested_at 128) module_form bytes ≡ stopped {A = Tree} s → IsLimit s → LimitAt bytes s
+module_limit bytes s p e k =
+    let r = limits 128 module_form bytes s module_sound module_example module_coded p e k in
+    record {
+      front = r.front;
+      b = r.b;
+      back = r.back;
+      parts = r.parts;
+      left = r.left;
+      last = r.last;
+      tells = r.tells;
+      core = r.is.0;
+      more = r.is.1;
+      form = r.is.2;
+      over = r.is.3;
+      spelled = r.is.4;
+    }

@@ -6,7 +6,10 @@ ghost use Rattle.form_grammar.specs.Trees.{Tree, spelling};
 ghost use Rattle.form_grammar.specs.Grammar.{module_form};
 ghost use Rattle.form_grammar.specs.Reading.{form_at, nested_at};
 ghost use Rattle.form_laws.specs.Forms.{IsForm, Fits};
+ghost use Rattle.form_laws.specs.Limits.{LimitAt};
 ghost use Rattle.form_laws.specs.Refusals.{IsBytes, StopsAt};
+
+use form_grammar::FormCode;
 
 /// No stored module begins another, and each is of one tree.
 pub fn one_form()
@@ -28,3 +31,9 @@ pub fn spelled_is_read()
 pub fn first_refusal()
     ensures { (bytes : List ℕ) (s : Stop) → IsBytes bytes → form_at (nested_at 128) module_form bytes ≡ Err s → StopsAt bytes s }
 {}
+
+/// Reading stops with a limit's code only where a module passes a limit there, and none earlier.
+pub fn limit_refusal()
+    ensures { (bytes : List ℕ) (s : Stop) → IsBytes bytes → form_at (nested_at 128) module_form bytes ≡ Err s → s.code ≡ FormCode.FormLimit → LimitAt bytes s }
+{
+}

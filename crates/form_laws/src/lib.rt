@@ -4,7 +4,7 @@
 mod laws;
 mod numbers;
 
-pub use laws::{first_refusal, one_form, read_is_spelled, spelled_is_read};
+pub use laws::{first_refusal, limit_refusal, one_form, read_is_spelled, spelled_is_read};
 pub use numbers::num_at;
 
 #[cfg(test)]
