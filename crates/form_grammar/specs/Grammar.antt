@@ -1,8 +1,7 @@
 -- The grammar of stored forms, as data.
-use Rattle.std.specs.Prelude.{◌≡◌, ℕ, suc, ◌+◌, ◌<◌, ◌≤◌, ◌^◌, ⊤, List, length, Option, Some, None, IfSome, nat_eq, All, if◌then◌else◌}
+use Rattle.std.specs.Prelude.{ℕ, Option, Some, None, nat_eq, if◌then◌else◌}
 use Rattle.form_grammar.specs.declared.codes.FormCode.{FormCode}
 use Rattle.form_grammar.specs.declared.codes.FormCode.TheVariants.{BadMagic, BadVersion, NotCanonical}
-use Rattle.form_grammar.specs.Trees.{Tree, nothing, byte, number, text, ◌▸◌, tagged, nested, many, end, ◌⨾◌, size}
 
 -- The productions that count as nested.
 pub data Class : Type 0 where
@@ -23,7 +22,6 @@ pub data Form : Type 0 where
   part : Class → Form
 
 infixr 20 ◌▹◌
-
 -- nothing, or what the form says
 abbrev pub opt : Form → Form
 opt f = alt 0 unit (tag 1 f)
@@ -152,23 +150,3 @@ abbrev pub chosen : Form → ℕ → Option Form
 chosen (tag n f) k = if nat_eq k n then Some f else None
 chosen (alt n f g) k = if nat_eq k n then Some f else chosen g k
 chosen _ k = None
-
-abbrev mutual
-  -- the tree is of the form
-  pub IsForm : Tree → Form → Type 0
-  IsForm nothing unit = ⊤
-  IsForm (byte b) (exactly code n) = b ≡ n
-  IsForm (byte b) (range low high) = (low ≤ b) × (b ≤ high)
-  IsForm (number n) num = n < 2 ^ 32
-  IsForm (text bytes) name = (0 < length bytes) × (length bytes < 256)
-  IsForm (x ▸ y) (f ▹ g) = IsForm x f × IsForm y g
-  IsForm (tagged k x) f = IfSome (chosen f k) (λ g. IsForm x g)
-  IsForm (many xs) (list f) = (size xs < 2 ^ 32) × AreForm xs f
-  IsForm (nested x) (part c) = IsForm x (grammar c)
-  IsForm _ _ = ⊥
-
-  -- each tree of the chain is of the form
-  pub AreForm : Tree → Form → Type 0
-  AreForm end f = ⊤
-  AreForm (x ⨾ xs) f = IsForm x f × AreForm xs f
-  AreForm _ _ = ⊥

@@ -15,7 +15,6 @@ pub data Tree : Type 0 where
 
 infixr 20 ◌▸◌
 infixr 30 ◌⨾◌
-
 -- at most so many digits of a number by 128, the lowest first; all but the last have 128 added
 abbrev pub digits : ℕ → ℕ → List ℕ
 digits zero n = []

@@ -1,13 +1,11 @@
 -- What is spelled is read again, whatever follows.
-use Rattle.std.proofs.Common.{◌≡◌, ℕ, zero, suc, ◌+◌, ◌-◌, ◌*◌, ◌/◌, ◌%◌, ◌^◌, ◌<◌, ◌≤◌, ◌⊎◌, inl, inr, Bool, true, false, not, ◌&&◌, Option, Some, None, List, [], ◌∷◌, ◌++◌, length, take, drop, Result, Ok, Err, cond, ltb, leb, eqb, refl, sym, ap, subst, ◌∙◌, append_assoc, arith}
-use Rattle.std.specs.Prelude.{nat_eq, nat_lt, nat_le}
+use Rattle.std.proofs.Common.{◌≡◌, ℕ, zero, suc, ◌+◌, ◌-◌, ◌*◌, ◌/◌, ◌%◌, ◌^◌, ◌<◌, ◌≤◌, ◌⊎◌, inl, inr, Bool, true, false, Some, None, List, ◌∷◌, ◌++◌, length, Ok, cond, ltb, refl, sym, ap, ◌∙◌, append_assoc, arith}
+use Rattle.std.specs.Prelude.{nat_eq}
 use Rattle.std.proofs.lemmas.Bool.{cases_lt, cases_eq, lt-ltb, le-ltb, le-leb, ne_eqb, eq-eqb}
 use Rattle.std.proofs.lemmas.List.{take_at, drop_at, length-append}
-use Rattle.form_grammar.specs.declared.codes.FormCode.TheVariants.{NotCanonical}
-use Rattle.form_grammar.specs.declared.codes.Stop.{Stop}
 use Rattle.form_grammar.specs.Trees.{Tree, nothing, byte, number, text, ◌▸◌, tagged, nested, many, end, ◌⨾◌, size, spelling, spelled_number, digits}
 use Rattle.form_grammar.specs.Grammar.{Form, Class, unit, exactly, range, num, name, ◌▹◌, tag, alt, list, part, chosen, grammar}
-use Rattle.form_grammar.specs.Numbers.{Found, after, digits_at, number_at, text_at, count_at, short, refused}
+use Rattle.form_grammar.specs.Numbers.{after, digits_at, number_at, text_at, count_at}
 use Rattle.form_grammar.specs.Reading.{Reader, form_at, nested_at, items_at, behind}
 use Rattle.form_laws.specs.Forms.{IsForm, AreForm, Fits}
 use Rattle.form_laws.proofs.Same.{InDigits, in_ten, digits_last, digits_more, inv_tagged}
@@ -60,7 +58,7 @@ text_again : (bytes rest : List ℕ) → 0 < length bytes → length bytes < 256
 unfolding text_at after
 text_again bytes rest p q =
     let e : digits_at 255 (spelled_number (length bytes) ++ bytes ++ rest) ≡ Ok (length bytes, bytes ++ rest) =
-        ap (digits_at 255) (append_assoc (spelled_number (length bytes)) bytes rest) ∙ digits_again 10 255 (length bytes) (bytes ++ rest) (in_ten (length bytes) (omega arith)) p (omega arith) in
+    ap (digits_at 255) (append_assoc (spelled_number (length bytes)) bytes rest) ∙ digits_again 10 255 (length bytes) (bytes ++ rest) (in_ten (length bytes) (omega arith)) p (omega arith) in
     let long : ltb (length (bytes ++ rest)) (length bytes) ≡ false = le-ltb _ _ (omega (arith, length-append bytes rest)) in
     rw (e, long, take_at bytes rest (length bytes) refl, drop_at bytes rest (length bytes) refl) refl
 

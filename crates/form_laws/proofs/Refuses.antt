@@ -1,26 +1,21 @@
 -- Where a byte is refused, nothing spelled begins with the bytes up to it.
-use Rattle.std.proofs.Common.{◌≡◌, ℕ, zero, suc, ◌+◌, ◌-◌, ◌*◌, ◌/◌, ◌%◌, ◌^◌, ◌<◌, ◌≤◌, ◌⊎◌, inl, inr, Bool, true, false, not, ◌&&◌, Option, Some, None, List, [], ◌∷◌, ◌++◌, length, take, drop, Result, Ok, Err, cond, ltb, leb, eqb, refl, sym, ap, subst, ◌∙◌, append_assoc, arith}
-use Rattle.std.specs.Prelude.{nat_eq, nat_lt, nat_le, ⊤, IsSomeAnd}
-use Rattle.std.proofs.lemmas.Bool.{cases_lt, cases_eq, cases_Bool, lt-ltb, le-ltb, le-leb, ne_eqb, eq-eqb, and_from, not_from_false}
+use Rattle.std.proofs.Common.{◌≡◌, ℕ, zero, suc, ◌+◌, ◌-◌, ◌*◌, ◌/◌, ◌^◌, ◌<◌, ◌≤◌, ◌⊎◌, inl, inr, true, false, not, ◌&&◌, Option, Some, None, List, [], ◌∷◌, ◌++◌, length, take, drop, Ok, Err, cond, leb, eqb, refl, sym, ap, subst, ◌∙◌, append_assoc, arith}
+use Rattle.std.specs.Prelude.{nat_eq, nat_lt, nat_le, IsSomeAnd}
+use Rattle.std.proofs.lemmas.Bool.{cases_lt, cases_eq, cases_Bool, lt-ltb, le-ltb, le-leb, ne_eqb, eq-eqb, and_from}
 use Rattle.form_grammar.specs.declared.codes.FormCode.{FormCode}
 use Rattle.form_grammar.specs.declared.codes.FormCode.TheVariants.{Short, NotCanonical, FormLimit}
 use Rattle.form_grammar.specs.declared.codes.Stop.{Stop}
 use Rattle.form_grammar.specs.Trees.{Tree, nothing, byte, number, text, ◌▸◌, tagged, nested, many, end, ◌⨾◌, size, spelling, spelled_number, digits}
 use Rattle.form_grammar.specs.Grammar.{Form, Class, unit, exactly, range, num, name, ◌▹◌, tag, alt, list, part, chosen, grammar}
 use Rattle.form_grammar.specs.Numbers.{Found, after, digits_at, number_at, text_at, count_at, short, refused}
-use Rattle.form_grammar.specs.Reading.{Reader, form_at, nested_at, items_at}
+use Rattle.form_grammar.specs.Reading.{form_at, nested_at, items_at}
 use Rattle.form_laws.specs.Forms.{IsForm, AreForm}
+use Rattle.form_laws.specs.Refusals.{IsBytes, IsWrong}
 use Rattle.form_laws.proofs.Same.{InDigits, in_ten, digits_last, digits_more, heads, number_same, same}
 use Rattle.form_laws.proofs.Again.{if_true, if_false}
-use Rattle.form_laws.proofs.Takes.{IsBytes, IsSound, IsChoice, found, stopped, never, number_take, count_take, takes, rest_bytes, grammar_sound}
+use Rattle.form_laws.proofs.Takes.{IsSound, IsChoice, found, stopped, count_take, takes, rest_bytes, grammar_sound}
 
--- a refusal of a byte that no form has there
-abbrev pub IsWrong : FormCode → Type 0
-IsWrong Short = ⊥
-IsWrong FormLimit = ⊥
-IsWrong _ = ⊤
-
-stop_is : {A : Type 0} (s t : Stop) → stopped {A = A} s ≡ stopped t → s ≡ t
+pub stop_is : {A : Type 0} (s t : Stop) → stopped {A = A} s ≡ stopped t → s ≡ t
 stop_is s t e = cc
 
 not_wrong : {A : Type 0} (s t : Stop) → stopped {A = A} s ≡ stopped t → (IsWrong s.code → ⊥) → IsWrong t.code → ⊥
@@ -113,14 +108,14 @@ digits_refuse most limit (b ∷ bytes) s p e w =
             | inl t ↦ absurd (found_not b bytes s (sym (if_true (nat_le b limit && not (nat_eq b 0)) _ _ t) ∙ e1))
             | inr t ↦
                 at_first ℕ (Digits (suc most) limit) NotCanonical b bytes s (sym (if_false (nat_le b limit && not (nat_eq b 0)) _ _ t) ∙ e1)
-                  (λ more q. outside t (first_low q.0 q.1 more l q.2 q.4 q.5) q.2 q.3)
+                (λ more q. outside t (first_low q.0 q.1 more l q.2 q.4 q.5) q.2 q.3)
           ]
       | inr l ↦
           let e1 = sym (if_false (nat_lt b 128) _ _ (le-ltb b 128 l)) ∙ e in
           elim (cases_lt limit 128) [
             | inl m ↦
                 at_first ℕ (Digits (suc most) limit) NotCanonical b bytes s (sym (if_true (nat_lt limit 128) _ _ (lt-ltb limit 128 m)) ∙ e1)
-                  (λ more q. small q.0 q.1 more (omega (arith, q.3)) l q.5)
+                (λ more q. small q.0 q.1 more (omega (arith, q.3)) l q.5)
             | inr m ↦ elim (after_err (digits_at (limit / 128) bytes) (λ high. Ok (b - 128 + 128 * high.0, high.1)) s (sym (if_false (nat_lt limit 128) _ _ (le-ltb limit 128 m)) ∙ e1)) [
               | inr z ↦ absurd (found_not _ _ s z.2)
               | inl z ↦ deeper most b limit bytes s l (λ k. digits_refuse k (limit / 128) bytes s p.1 z w)
@@ -149,7 +144,7 @@ digits_refuse most limit (b ∷ bytes) s p e w =
 abbrev pub Numbers : List ℕ → Type 0
 Numbers l = (n : ℕ) × (r : List ℕ) × (n < 2 ^ 32) × (spelled_number n ++ r ≡ l)
 
-number_refuse : (bytes : List ℕ) (s : Stop) → IsBytes bytes → number_at bytes ≡ stopped s → IsWrong s.code → Refuses Numbers bytes s
+pub number_refuse : (bytes : List ℕ) (s : Stop) → IsBytes bytes → number_at bytes ≡ stopped s → IsWrong s.code → Refuses Numbers bytes s
 unfolding number_at
 number_refuse [] s p e w = absurd (not_wrong {A = ℕ} (record { code = Short; left = 0 }) s e (λ z. z) w)
 number_refuse (b ∷ bytes) s p e w =
@@ -178,7 +173,7 @@ text_refuse bytes s p e w =
     elim (after_err (digits_at 255 bytes) (λ n. cond (nat_lt (length n.1) n.0) short (Ok (take n.0 n.1, drop n.0 n.1))) s e) [
       | inl z ↦
           further Texts (Digits 10 255) [] bytes bytes s refl (digits_refuse 9 255 bytes s p z w)
-            (λ l q. (length q.0, q.0 ++ q.1, q.2, omega (arith, q.3), in_ten (length q.0) (omega (arith, q.3)), sym (append_assoc (spelled_number (length q.0)) q.0 q.1) ∙ q.4))
+          (λ l q. (length q.0, q.0 ++ q.1, q.2, omega (arith, q.3), in_ten (length q.0) (omega (arith, q.3)), sym (append_assoc (spelled_number (length q.0)) q.0 q.1) ∙ q.4))
       | inr z ↦ elim (cases_lt (length z.0.1) z.0.0) [
         | inl l ↦ absurd (not_wrong {A = List ℕ} (record { code = Short; left = 0 }) s (sym (if_true (nat_lt (length z.0.1) z.0.0) _ _ (lt-ltb (length z.0.1) z.0.0 l)) ∙ z.2) (λ y. y) w)
         | inr l ↦ absurd (found_not _ _ s (sym (if_false (nat_lt (length z.0.1) z.0.0) _ _ (le-ltb (length z.0.1) z.0.0 l)) ∙ z.2))
@@ -342,7 +337,7 @@ module _ (d : ℕ) (inner : NestedRefuse d) where
             elim (after_err (items_at (form_at (nested_at d) f) n z.0.1) (λ xs. Ok (z.0.0 ⨾ xs.0, xs.1)) s z.2) [
               | inl y ↦
                   further (ReadsItems f (suc n)) (ReadsItems f n) (spelling z.0.0) bytes z.0.1 s t.parts
-                    (items_refuse f so each n z.0.1 s (rest_bytes bytes (spelling z.0.0) z.0.1 p t.parts) y w) (λ l q. others_in f n z.0.0 l t.form q)
+                  (items_refuse f so each n z.0.1 s (rest_bytes bytes (spelling z.0.0) z.0.1 p t.parts) y w) (λ l q. others_in f n z.0.0 l t.form q)
               | inr y ↦ absurd (found_not _ _ s y.2)
             ]
       ]
@@ -380,7 +375,7 @@ module _ (d : ℕ) (inner : NestedRefuse d) where
             elim (after_err (form_at (nested_at d) g z.0.1) (λ y. Ok (z.0.0 ▸ y.0, y.1)) s z.2) [
               | inl y ↦
                   further (Reads (f ▹ g)) (Reads g) (spelling z.0.0) bytes z.0.1 s t.parts
-                    (form_refuse g z.0.1 s so.1 (rest_bytes bytes (spelling z.0.0) z.0.1 p t.parts) y w) (λ l q. second_in f g z.0.0 l t.form q)
+                  (form_refuse g z.0.1 s so.1 (rest_bytes bytes (spelling z.0.0) z.0.1 p t.parts) y w) (λ l q. second_in f g z.0.0 l t.form q)
               | inr y ↦ absurd (found_not _ _ s y.2)
             ]
       ]
@@ -410,8 +405,8 @@ module _ (d : ℕ) (inner : NestedRefuse d) where
             elim (after_err (items_at (form_at (nested_at d) f) z.0.0 z.0.1) (λ xs. Ok (many xs.0, xs.1)) s z.2) [
               | inl y ↦
                   further (Reads (list f)) (ReadsItems f z.0.0) (spelled_number z.0.0) bytes z.0.1 s i.1
-                    (items_refuse f so (λ bytes s q h v. form_refuse f bytes s so q h v) z.0.0 z.0.1 s (rest_bytes bytes (spelled_number z.0.0) z.0.1 p i.1) y w)
-                    (λ l q. items_in f z.0.0 l (omega (arith, i.0)) q)
+                  (items_refuse f so (λ bytes s q h v. form_refuse f bytes s so q h v) z.0.0 z.0.1 s (rest_bytes bytes (spelled_number z.0.0) z.0.1 p i.1) y w)
+                  (λ l q. items_in f z.0.0 l (omega (arith, i.0)) q)
               | inr y ↦ absurd (found_not _ _ s y.2)
             ]
       ]

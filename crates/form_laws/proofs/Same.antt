@@ -1,10 +1,10 @@
 -- No spelling begins another, and each spelling is of one tree.
-use Rattle.std.proofs.Common.{◌≡◌, ℕ, zero, suc, ◌+◌, ◌*◌, ◌/◌, ◌%◌, ◌^◌, ◌<◌, ◌≤◌, ◌⊎◌, inl, inr, Option, Some, None, List, [], ◌∷◌, ◌++◌, length, cond, ltb, refl, sym, ap, subst, ◌∙◌, append_assoc, arith}
+use Rattle.std.proofs.Common.{◌≡◌, ℕ, zero, suc, ◌+◌, ◌/◌, ◌%◌, ◌^◌, ◌<◌, ◌≤◌, ◌⊎◌, inl, inr, Option, Some, None, List, [], ◌∷◌, ◌++◌, length, cond, refl, sym, ap, subst, ◌∙◌, append_assoc, arith}
 use Rattle.std.specs.Prelude.{IsSomeAnd}
 use Rattle.std.proofs.lemmas.Bool.{cases_lt, lt-ltb, le-ltb}
 use Rattle.form_grammar.specs.declared.codes.FormCode.{FormCode}
 use Rattle.form_grammar.specs.Trees.{Tree, nothing, byte, number, text, ◌▸◌, tagged, nested, many, end, ◌⨾◌, size, spelling, spelled_number, digits}
-use Rattle.form_grammar.specs.Grammar.{Form, Class, unit, exactly, range, num, name, ◌▹◌, tag, alt, list, part, chosen, grammar}
+use Rattle.form_grammar.specs.Grammar.{Form, Class, unit, exactly, range, num, name, ◌▹◌, list, part, chosen, grammar}
 use Rattle.form_laws.specs.Forms.{IsForm, AreForm}
 
 -- so many digits are enough
@@ -22,7 +22,6 @@ pub heads : {x y : ℕ} {a b : List ℕ} → x ∷ a ≡ y ∷ b → (x ≡ y) �
 heads e = (cc, cc)
 
 digits_same : (most m n : ℕ) (a b : List ℕ) → InDigits most m → InDigits most n → digits most m ++ a ≡ digits most n ++ b → (m ≡ n) × (a ≡ b)
-
 digits_same zero m n a b p q e = absurd p
 digits_same (suc most) m n a b p q e =
     elim (cases_lt m 128) [
@@ -48,7 +47,6 @@ digits_same (suc most) m n a b p q e =
     higher (inr h) g = h
 
 pub in_ten : (n : ℕ) → n < 2 ^ 32 → InDigits 10 n
-
 in_ten n h =
     elim (cases_lt n 128) [
       | inl l ↦ inl l
@@ -127,7 +125,7 @@ inv_tagged k x f p = go (chosen f k) refl p
     go (Some g) e q = (g, e, q)
 
 -- lists of one length in front
-split_same : (s t a b : List ℕ) → length s ≡ length t → s ++ a ≡ t ++ b → (s ≡ t) × (a ≡ b)
+pub split_same : (s t a b : List ℕ) → length s ≡ length t → s ++ a ≡ t ++ b → (s ≡ t) × (a ≡ b)
 split_same [] [] a b n e = (refl, e)
 split_same [] (y ∷ t) a b n e = absurd (omega arith)
 split_same (x ∷ s) [] a b n e = absurd (omega arith)

@@ -1,22 +1,18 @@
 -- What is read was spelled so.
-use Rattle.std.proofs.Common.{◌≡◌, ℕ, zero, suc, ◌+◌, ◌-◌, ◌*◌, ◌/◌, ◌%◌, ◌^◌, ◌<◌, ◌≤◌, ◌⊎◌, inl, inr, Bool, true, false, not, ◌&&◌, Option, Some, None, List, [], ◌∷◌, ◌++◌, length, take, drop, Result, Ok, Err, cond, ltb, leb, eqb, refl, sym, ap, subst, ◌∙◌, append_assoc, arith}
+use Rattle.std.proofs.Common.{◌≡◌, ℕ, zero, suc, ◌+◌, ◌-◌, ◌*◌, ◌/◌, ◌%◌, ◌^◌, ◌<◌, ◌≤◌, ◌⊎◌, inl, inr, not, ◌&&◌, Option, Some, None, List, [], ◌∷◌, ◌++◌, length, take, drop, Result, Ok, Err, cond, leb, eqb, refl, sym, ap, subst, ◌∙◌, append_assoc, arith}
 use Rattle.std.specs.Prelude.{nat_eq, nat_lt, nat_le, ⊤, IsSomeAnd}
-use Rattle.std.proofs.lemmas.Bool.{cases_lt, cases_eq, cases_Bool, lt-ltb, le-ltb, le-leb, leb-true, ltb-false, ltb-true, ne_eqb, eq-eqb, eqb-false, eqb-true, and_parts, not-true}
+use Rattle.std.proofs.lemmas.Bool.{cases_lt, cases_eq, cases_Bool, lt-ltb, le-ltb, leb-true, ne_eqb, eq-eqb, eqb-false, and_parts, not-true}
 use Rattle.std.proofs.lemmas.List.{take-append-drop, length-take-le}
-use Rattle.form_grammar.specs.declared.codes.FormCode.{FormCode}
-use Rattle.form_grammar.specs.declared.codes.FormCode.TheVariants.{NotCanonical, FormLimit}
+use Rattle.form_grammar.specs.declared.codes.FormCode.TheVariants.{FormLimit}
 use Rattle.form_grammar.specs.declared.codes.Stop.{Stop}
 use Rattle.form_grammar.specs.Trees.{Tree, nothing, byte, number, text, ◌▸◌, tagged, nested, many, end, ◌⨾◌, size, spelling, spelled_number, digits}
 use Rattle.form_grammar.specs.Grammar.{Form, Class, unit, exactly, range, num, name, ◌▹◌, tag, alt, list, part, chosen, grammar}
-use Rattle.form_grammar.specs.Numbers.{Found, after, digits_at, number_at, text_at, count_at, short, refused}
-use Rattle.form_grammar.specs.Reading.{Reader, form_at, nested_at, items_at, behind}
+use Rattle.form_grammar.specs.Numbers.{Found, after, digits_at, number_at, text_at, count_at, short}
+use Rattle.form_grammar.specs.Reading.{form_at, nested_at, items_at}
 use Rattle.form_laws.specs.Forms.{IsForm, AreForm, Fits}
+use Rattle.form_laws.specs.Refusals.{IsBytes}
 use Rattle.form_laws.proofs.Same.{digits_last, digits_more}
 use Rattle.form_laws.proofs.Again.{if_true, if_false}
-
-abbrev pub IsBytes : List ℕ → Type 0
-IsBytes [] = ⊤
-IsBytes (b ∷ bytes) = (b < 256) × IsBytes bytes
 
 bytes_behind : (s t : List ℕ) → IsBytes (s ++ t) → IsBytes t
 bytes_behind [] t p = p
@@ -50,7 +46,7 @@ abbrev pub Ones : ℕ → ℕ → Type 0
 Ones zero limit = ⊥
 Ones (suc most) limit = (limit < 128) ⊎ ((limit % 128 ≡ 127) × Ones most (limit / 128))
 
-digits_take : (most limit : ℕ) (bytes : List ℕ) (n : ℕ) (rest : List ℕ) → Ones most limit → IsBytes bytes → digits_at limit bytes ≡ found n rest →
+pub digits_take : (most limit : ℕ) (bytes : List ℕ) (n : ℕ) (rest : List ℕ) → Ones most limit → IsBytes bytes → digits_at limit bytes ≡ found n rest →
     (0 < n) × (n ≤ limit) × (bytes ≡ digits most n ++ rest)
 unfolding digits_at
 digits_take zero limit bytes n rest o p e = absurd o
@@ -81,9 +77,11 @@ digits_take (suc most) limit (b ∷ bytes) n rest o p e =
                 let i = digits_take most (limit / 128) bytes a.0.0 a.0.1 g.1 p.1 a.1 in
                 let high : n / 128 ≡ a.0.0 = omega (arith, w.0, p.0) in
                 let low : n % 128 + 128 ≡ b = omega (arith, w.0, p.0) in
-                let d : digits (suc most) n ≡ (n % 128 + 128) ∷ digits most (n / 128) = digits_more most n (omega (arith, w.0, i.0)) in
-                (omega (arith, w.0, i.0), omega (arith, w.0, i.1, g.0, p.0),
-                 ap (λ r. b ∷ r) i.2 ∙ (ap (λ r. b ∷ (digits most a.0.0 ++ r)) w.1 ∙ (ap (λ h. b ∷ (digits most h ++ rest)) (sym high) ∙ (ap (λ l. l ∷ (digits most (n / 128) ++ rest)) (sym low) ∙ sym (ap (λ s. s ++ rest) d)))))
+                let d : digits (suc most) n ≡ (n % 128 + 128) ∷ digits most (n / 128) = digits_more most n (omega (arith, w.0, i.0)) in (
+                  omega (arith, w.0, i.0),
+                  omega (arith, w.0, i.1, g.0, p.0),
+                  ap (λ r. b ∷ r) i.2 ∙ (ap (λ r. b ∷ (digits most a.0.0 ++ r)) w.1 ∙ (ap (λ h. b ∷ (digits most h ++ rest)) (sym high) ∙ (ap (λ l. l ∷ (digits most (n / 128) ++ rest)) (sym low) ∙ sym (ap (λ s. s ++ rest) d)))),
+                )
           ]
     ]
   where
@@ -95,10 +93,10 @@ digits_take (suc most) limit (b ∷ bytes) n rest o p e =
     higher (inl h) g = absurd (omega arith)
     higher (inr h) g = h
 
-number_ones : Ones 10 4294967295
+pub number_ones : Ones 10 4294967295
 number_ones = inr (omega arith, inr (omega arith, inr (omega arith, inr (omega arith, inl (omega arith)))))
 
-text_ones : Ones 10 255
+pub text_ones : Ones 10 255
 text_ones = inr (omega arith, inl (omega arith))
 
 pub number_take : (bytes : List ℕ) (n : ℕ) (rest : List ℕ) → IsBytes bytes → number_at bytes ≡ found n rest → (n < 2 ^ 32) × (bytes ≡ spelled_number n ++ rest)
@@ -124,9 +122,11 @@ text_take bytes t rest p e =
       | inr l ↦
           let w = found_is (take a.0.0 a.0.1) t (drop a.0.0 a.0.1) rest (sym (if_false (nat_lt (length a.0.1) a.0.0) _ _ (le-ltb (length a.0.1) a.0.0 l)) ∙ a.2) in
           let len : length t ≡ a.0.0 = ap length (sym w.0) ∙ length-take-le a.0.0 a.0.1 l in
-          let both : a.0.1 ≡ t ++ rest = sym (take-append-drop a.0.0 a.0.1) ∙ (ap (λ z. z ++ drop a.0.0 a.0.1) w.0 ∙ ap (λ z. t ++ z) w.1) in
-          (omega (arith, len, i.0), omega (arith, len, i.1),
-           i.2 ∙ (ap (λ z. spelled_number a.0.0 ++ z) both ∙ (sym (append_assoc (spelled_number a.0.0) t rest) ∙ ap (λ k. (spelled_number k ++ t) ++ rest) (sym len))))
+          let both : a.0.1 ≡ t ++ rest = sym (take-append-drop a.0.0 a.0.1) ∙ (ap (λ z. z ++ drop a.0.0 a.0.1) w.0 ∙ ap (λ z. t ++ z) w.1) in (
+            omega (arith, len, i.0),
+            omega (arith, len, i.1),
+            i.2 ∙ (ap (λ z. spelled_number a.0.0 ++ z) both ∙ (sym (append_assoc (spelled_number a.0.0) t rest) ∙ ap (λ k. (spelled_number k ++ t) ++ rest) (sym len))),
+          )
     ]
 
 pub count_take : (bytes : List ℕ) (n : ℕ) (rest : List ℕ) → IsBytes bytes → count_at bytes ≡ found n rest → (n ≤ 65536) × (bytes ≡ spelled_number n ++ rest)

@@ -27,6 +27,10 @@ abbrev mutual
 abbrev pub IsStored : List ℕ → Type 0
 IsStored bytes = (x : Tree) × IsForm x module_form × (bytes ≡ spelling x)
 
+-- these bytes are a stored module but for its end
+abbrev pub IsCut : List ℕ → Type 0
+IsCut front = (more : List ℕ) × (0 < length more) × IsStored (front ++ more)
+
 -- some stored module begins with these bytes
 abbrev pub GoesOn : List ℕ → Type 0
 GoesOn front = (more : List ℕ) × IsStored (front ++ more)

@@ -1,1 +1,4 @@
 pub mod Forms
+pub mod Refusals
+pub mod Fields
+pub mod Limits

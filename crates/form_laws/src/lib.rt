@@ -2,5 +2,10 @@
 #![tactic(auto)]
 
 mod laws;
+mod numbers;
 
-pub use laws::one_form;
+pub use laws::{first_refusal, limit_refusal, one_form, read_is_spelled, spelled_is_read};
+pub use numbers::num_at;
+
+#[cfg(test)]
+mod tests;
