@@ -1,0 +1,4 @@
+pub mod Loops
+pub mod Nested
+pub mod Chains
+pub mod Digits
