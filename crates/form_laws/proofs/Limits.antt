@@ -1,20 +1,20 @@
 -- Where reading stops at a limit.
-use Rattle.std.proofs.Common.{◌≡◌, ℕ, zero, suc, ◌+◌, ◌-◌, ◌*◌, ◌<◌, ◌≤◌, ◌^◌, ◌⊎◌, inl, inr, Bool, true, false, ◌&&◌, Option, Some, None, List, [], ◌∷◌, ◌++◌, length, take, drop, Result, Ok, Err, cond, ltb, leb, eqb, refl, sym, ap, subst, ◌∙◌, append_assoc, arith}
-use Rattle.std.specs.Prelude.{nat_eq, nat_lt, nat_le, ⊤, IsSomeAnd}
+use Rattle.std.proofs.Common.{◌≡◌, ℕ, zero, suc, ◌+◌, ◌<◌, ◌^◌, ◌⊎◌, inl, inr, ◌&&◌, Option, Some, None, List, [], ◌∷◌, ◌++◌, length, take, drop, Ok, Err, cond, leb, refl, sym, ap, subst, ◌∙◌, append_assoc, arith}
+use Rattle.std.specs.Prelude.{nat_eq, nat_lt, nat_le, IsSomeAnd}
 use Rattle.std.proofs.lemmas.Bool.{cases_lt, cases_eq, cases_Bool, lt-ltb, le-ltb, ne_eqb, eq-eqb}
 use Rattle.slang_tree.specs.declared.form_codes.FormCode.{FormCode}
 use Rattle.slang_tree.specs.declared.form_codes.FormCode.TheVariants.{Short, NotCanonical, FormLimit}
 use Rattle.form_grammar.specs.declared.codes.Stop.{Stop}
 use Rattle.form_grammar.specs.Trees.{Tree, nothing, byte, number, text, ◌▸◌, tagged, nested, many, end, ◌⨾◌, size, spelling, spelled_number}
 use Rattle.form_grammar.specs.Grammar.{Form, Class, unit, exactly, range, num, name, ◌▹◌, tag, alt, list, part, chosen, grammar}
-use Rattle.form_grammar.specs.Numbers.{Found, after, digits_at, number_at, text_at, count_at, short, refused}
-use Rattle.form_grammar.specs.Reading.{Reader, form_at, nested_at, items_at}
-use Rattle.form_laws.specs.Forms.{IsForm, AreForm, Fits}
+use Rattle.form_grammar.specs.Numbers.{after, digits_at, number_at, text_at, count_at, short}
+use Rattle.form_grammar.specs.Reading.{form_at, nested_at, items_at}
+use Rattle.form_laws.specs.Forms.{IsForm, AreForm}
 use Rattle.form_laws.specs.Refusals.{IsBytes, IsWrong}
 use Rattle.form_laws.specs.Limits.{Over}
 use Rattle.form_laws.proofs.Same.{in_ten, heads}
 use Rattle.form_laws.proofs.Again.{if_true, if_false}
-use Rattle.form_laws.proofs.Takes.{IsSound, IsChoice, found, stopped, number_take, count_take, takes, rest_bytes, grammar_sound}
+use Rattle.form_laws.proofs.Takes.{IsSound, IsChoice, stopped, number_take, count_take, takes, rest_bytes, grammar_sound}
 use Rattle.form_laws.proofs.Refuses.{after_err, found_not, stop_is}
 use Rattle.form_laws.proofs.Fields.{at_end, EndsOrWrong, digits_codes, number_codes}
 use Rattle.form_laws.proofs.Ends.{IsCoded, grammar_coded}
@@ -239,7 +239,7 @@ module _ (d : ℕ) (inner : NestedLimit d) where
                     many q.0,
                     q.1,
                     (omega (arith, q.3, i.0), q.2),
-                    inr (front, ap (λ j. spelled_number j ++ front) (sym q.3), q.4),
+                    inr (front, ap (λ j. spelled_number j ++ front) (sym q.3), omega (arith, q.3, i.0), q.4),
                     ap (λ j. spelled_number j ++ spelling q.0) q.3 ∙ head3 (spelled_number z.0.0) (spelling q.0) front last q.1 q.5,
                   ))
               | inr y ↦ absurd (found_not _ _ s y.2)

@@ -1,6 +1,6 @@
 -- Where a tree passes a limit first.
-use Rattle.std.specs.Prelude.{◌≡◌, ℕ, zero, suc, ◌<◌, ◌⊎◌, List, [], ◌∷◌, ◌++◌, length}
-use Rattle.form_grammar.specs.Trees.{Tree, nothing, byte, number, text, ◌▸◌, tagged, nested, many, end, ◌⨾◌, size, spelling, spelled_number}
+use Rattle.std.specs.Prelude.{◌≡◌, ℕ, zero, suc, ◌<◌, ◌≤◌, ◌⊎◌, List, [], ◌∷◌, ◌++◌, length}
+use Rattle.form_grammar.specs.Trees.{Tree, ◌▸◌, tagged, nested, many, ◌⨾◌, size, spelling, spelled_number}
 use Rattle.form_grammar.specs.declared.codes.Stop.{Stop}
 use Rattle.form_grammar.specs.Grammar.{module_form}
 use Rattle.form_laws.specs.Forms.{IsForm, Fits}
@@ -14,7 +14,7 @@ Over (nested x) zero front last = (front ≡ []) × (last ≡ [])
 Over (nested x) (suc depth) front last = Over x depth front last
 Over (many xs) depth front last =
     ((b : ℕ) × (65536 < size xs) × (last ≡ b ∷ []) × (spelled_number (size xs) ≡ front ++ (b ∷ [])))
-    ⊎ ((rest : List ℕ) × (front ≡ spelled_number (size xs) ++ rest) × Over xs depth rest last)
+    ⊎ ((rest : List ℕ) × (front ≡ spelled_number (size xs) ++ rest) × (size xs ≤ 65536) × Over xs depth rest last)
 Over (x ⨾ xs) depth front last = Over x depth front last ⊎ ((rest : List ℕ) × (front ≡ spelling x ++ rest) × Fits x depth × Over xs depth rest last)
 Over _ depth front last = ⊥
 

@@ -1,0 +1,11 @@
+pub mod Parts
+pub mod Types
+pub mod Evidences
+pub mod Decls
+pub mod Bodies
+pub mod Modules
+pub mod Agrees
+pub mod PlainTypes
+pub mod PlainDecls
+pub mod PlainBodies
+pub mod PlainModules
