@@ -1,0 +1,4 @@
+pub mod Sorts
+pub mod Lookups
+pub mod Places
+pub mod Inside
