@@ -1,0 +1,74 @@
+-- A buffer is found where those before it end.
+use Rattle.std.proofs.Common.{◌≡◌, ℕ, zero, suc, ◌<◌, ◌⊎◌, true, false, ltb, eqb, Some, List, [], ◌∷◌, length, get_or, sym, ap, subst, ◌∙◌, ◌&&◌, inl, inr, arith}
+use Rattle.std.specs.Prelude.{slice_get}
+use Rattle.std.specs.List.Sorted.{IsPartitionPoint, IsPartitionedBy}
+use Rattle.std.proofs.lemmas.Bool.{cases_lt, or_cases, or_left, or_right, and_parts, and_from, ltb-true, lt-ltb, eqb-true, eq-eqb}
+use Rattle.run_buffers.specs.declared.buffer.Buffer.{Buffer}
+use Rattle.run_buffers.specs.Texts.{IsBefore, IsAscending}
+use Rattle.run_buffers.specs.Memory.{slots, is_before}
+
+abbrev Comes : ℕ → ℕ → Buffer → Type 0
+Comes set binding b = (b.set < set) ⊎ ((b.set ≡ set) × (b.binding < binding))
+
+comes_from_test : (set binding : ℕ) (b : Buffer) → is_before set binding b ≡ true → Comes set binding b
+comes_from_test set binding b h = elim (or_cases (ltb b.set set) (eqb b.set set && ltb b.binding binding) h) [
+  | inl less ↦ inl (ltb-true b.set set less)
+  | inr same ↦ let p = and_parts (eqb b.set set) (ltb b.binding binding) same in inr (eqb-true b.set set p.0, ltb-true b.binding binding p.1)
+]
+
+test_from_comes : (set binding : ℕ) (b : Buffer) → Comes set binding b → is_before set binding b ≡ true
+test_from_comes set binding b (inl less) = or_left (ltb b.set set) (eqb b.set set && ltb b.binding binding) (lt-ltb b.set set less)
+test_from_comes set binding b (inr same) = or_right (ltb b.set set) (eqb b.set set && ltb b.binding binding) (and_from (eqb b.set set) (ltb b.binding binding) (eq-eqb b.set set same.0) (lt-ltb b.binding binding same.1))
+
+before_comes : (set binding : ℕ) (a b : Buffer) → IsBefore a b → Comes set binding b → Comes set binding a
+before_comes set binding a b (inl p) (inl q) = inl (omega arith)
+before_comes set binding a b (inl p) (inr q) = inl (let e = q.0 in omega arith)
+before_comes set binding a b (inr p) (inl q) = inl (let e = p.0 in omega arith)
+before_comes set binding a b (inr p) (inr q) = let e = p.0 in let f = q.0 in let g = p.1 in let h = q.1 in inr (omega arith, omega arith)
+
+first_before : (a : Buffer) (bs : List Buffer) (j : ℕ) (d : Buffer) → IsAscending (a ∷ bs) → j < length bs → IsBefore a (get_or bs j d)
+first_before a [] j d h lt = absurd (omega arith)
+first_before a (b ∷ bs) zero d h lt = h.0
+first_before a (b ∷ bs) (suc j) d h lt = let c = get_or bs j d in before_comes c.set c.binding a b h.0 (first_before b bs j d h.1 (omega arith))
+
+rest_ascends : (a : Buffer) (bs : List Buffer) → IsAscending (a ∷ bs) → IsAscending bs
+rest_ascends a [] h = tt
+rest_ascends a (b ∷ bs) h = h.1
+
+pub pair_before : (bs : List Buffer) (i j : ℕ) (d : Buffer) → IsAscending bs → i < j → j < length bs → IsBefore (get_or bs i d) (get_or bs j d)
+pair_before [] i j d h lt le = absurd (omega arith)
+pair_before (a ∷ bs) i zero d h lt le = absurd (omega arith)
+pair_before (a ∷ bs) zero (suc j) d h lt le = first_before a bs j d h (omega arith)
+pair_before (a ∷ bs) (suc i) (suc j) d h lt le = pair_before bs i j d (rest_ascends a bs h) (omega arith) (omega arith)
+
+pub parted : (set binding : ℕ) (bs : List Buffer) → IsAscending bs → IsPartitionedBy (is_before set binding) bs
+parted set binding bs h i j d le lt holds = elim (cases_lt i j) [
+  | inl less ↦ test_from_comes set binding (get_or bs i d) (before_comes set binding (get_or bs i d) (get_or bs j d) (pair_before bs i j d h less lt) (comes_from_test set binding (get_or bs j d) holds))
+  | inr more ↦ let e : j ≡ i = omega arith in subst (λ (k : ℕ). is_before set binding (get_or bs k d) ≡ true) e holds
+]
+
+same_pair : (x y : ℕ × ℕ) → Some x ≡ Some y → x ≡ y
+same_pair x y e = cc
+
+pub slot_within : (bs : List Buffer) (q set binding : ℕ) (d : Buffer) → slice_get (slots bs) q ≡ Some (set, binding) → (q < length bs) × ((get_or bs q d).set ≡ set) × ((get_or bs q d).binding ≡ binding)
+slot_within [] q set binding d e = absurd cc
+slot_within (b ∷ bs) zero set binding d e = let p = same_pair (b.set, b.binding) (set, binding) e in (omega arith, ap (λ (x : ℕ × ℕ). x.0) p, ap (λ (x : ℕ × ℕ). x.1) p)
+slot_within (b ∷ bs) (suc q) set binding d e = let r = slot_within bs q set binding d e in let h = r.0 in (omega arith, r.1, r.2)
+
+pub found_at : (set binding : ℕ) (bs : List Buffer) (p q : ℕ) (d : Buffer) → IsAscending bs → IsPartitionPoint (λ y. is_before set binding y ≡ true) (λ y. is_before set binding y ≡ false) bs p
+    → slice_get (slots bs) q ≡ Some (set, binding) → p ≡ q
+found_at set binding bs p q d h point e =
+    let s = slot_within bs q set binding d e in
+    elim (cases_lt q p) [
+      | inl less ↦ absurd (elim (comes_from_test set binding (get_or bs q d) (point.0 q d (omega arith) less)) [
+        | inl a ↦ let k = s.1 in omega arith
+        | inr b ↦ let k = s.2 in let m = b.1 in omega arith
+      ])
+      | inr more ↦ elim (cases_lt p q) [
+        | inl less ↦
+            let comes = test_from_comes set binding (get_or bs p d) (let b = pair_before bs p q d h less s.0 in subst (λ (v : ℕ). Comes v binding (get_or bs p d)) s.1 (subst (λ (w : ℕ). Comes (get_or bs q d).set w (get_or bs p d)) s.2 b)) in
+            let later = point.1 p d (omega arith) (let k = s.0 in omega arith) in
+            absurd (let clash : true ≡ false = sym comes ∙ later in cc)
+        | inr same ↦ omega arith
+      ]
+    ]

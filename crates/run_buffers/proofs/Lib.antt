@@ -1,0 +1,14 @@
+pub mod Decimals
+pub mod Separated
+pub mod Sequence
+pub mod Headers
+pub mod Words
+pub mod WholeLines
+pub mod Stopped
+pub mod Breaking
+pub mod Fitting
+pub mod Whole
+pub mod Answered
+pub mod ByPosition
+pub mod Finding
+pub mod Places

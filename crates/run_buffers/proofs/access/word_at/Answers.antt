@@ -1,0 +1,13 @@
+use Rattle.std.proofs.Common.{ℕ, List, sym, ap, ◌∙◌}
+use Rattle.std.specs.Prelude.{slice_get}
+use Rattle.run_buffers.proofs.ByPosition.{words_read, words_past}
+use Rattle.run_buffers.proofs.access.word_at.Goals as goal
+
+pub returns-in-Some : goal.returns-in-Some
+returns-in-Some c =
+    let k = c.in-Some.ensures.lookup.3 in
+    c.copied.ensures ∙ (c.get-in-Some.ensures.value ∙ ap (λ (ws : List ℕ). slice_get ws c.args.index) (sym (words_read c.args.buffers.now c.args.position c.in-Some.buffer.now k.0 k.1)))
+
+pub returns-in-None : goal.returns-in-None
+returns-in-None c =
+    sym (ap (λ (ws : List ℕ). slice_get ws c.args.index) (words_past c.args.buffers.now c.args.position c.in-None.ensures.lookup.3))
