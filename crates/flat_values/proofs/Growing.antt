@@ -3,7 +3,7 @@ use Rattle.std.proofs.Common.{◌≡◌, ℕ, zero, suc, ◌+◌, ◌-◌, ◌<�
 use Rattle.std.proofs.lemmas.Bool.{cases_lt}
 use Rattle.std.proofs.lemmas.List.{same_lists, length-set, length_push, length-map, take_more, drop_more, length-drop, get_or-drop, get_or_append_left, get_or-append_right, get_or-set_same, get_or-set_other, map_push, drop-drop}
 use borrow.Rule.Slice.PartMut.{put_mid}
-use Rattle.flat_values.specs.Ranges.{range_at, written}
+use Rattle.flat_values.specs.Ranges.{range_at, written, copied}
 use Rattle.std.proofs.Math.Seq.{take-add}
 use Rattle.flat_values.specs.Lanes.{both_of}
 use Rattle.flat_values.proofs.Lanes.{both, more, both_append}
@@ -202,3 +202,29 @@ pub put_mid_is : (ws xs : List ℕ) (place k : ℕ) → length xs ≡ k → put_
 put_mid_is ws xs place k e =
     ap (λ l. take place ws ++ (xs ++ l)) (drop-drop k place ws ∙ ap (λ j. drop (place + j) ws) (sym e))
     ∙ sym (append_assoc (take place ws) xs (drop (place + length xs) ws))
+
+-- ---- single words
+
+pub range_one : (ws : List ℕ) (i : ℕ) → i < length ws → range_at ws i 1 ≡ get_or ws i 0 ∷ []
+range_one ws i h = ap (take 1) (drop_more ws i 0 h)
+
+pub set_one : (ws : List ℕ) (i x : ℕ) → i < length ws → set ws i x ≡ written ws i (x ∷ [])
+set_one ws i x h = ap (λ w. set w i x) (written_none ws i (omega arith)) ∙ written_more ws [] i i x (omega arith) (omega arith)
+
+pub copied_one : (ws : List ℕ) (from to count : ℕ) → from < length ws → to < length ws → count ≡ 1
+    → set ws to (get_or ws from 0) ≡ copied ws from to count
+copied_one ws from to count f t e =
+    set_one ws to (get_or ws from 0) t ∙ (ap (written ws to) (sym (range_one ws from f)) ∙ ap (λ n. copied ws from to n) (sym e))
+
+pub mapped_one : (f : ℕ → ℕ) (ws : List ℕ) (from to count x : ℕ) → from < length ws → to < length ws → count ≡ 1
+    → x ≡ f (get_or ws from 0) → set ws to x ≡ written ws to (map f (range_at ws from count))
+mapped_one f ws from to count x l t e r =
+    set_one ws to x t
+    ∙ (ap (λ y. written ws to (y ∷ [])) r ∙ (ap (λ xs. written ws to (map f xs)) (sym (range_one ws from l))
+    ∙ ap (λ n. written ws to (map f (range_at ws from n))) (sym e)))
+
+pub both_one : (f : ℕ → ℕ → Option ℕ) (ws : List ℕ) (left right x : ℕ) → left < length ws → right < length ws
+    → Some x ≡ f (get_or ws left 0) (get_or ws right 0) → both_of f (range_at ws left 1) (range_at ws right 1) ≡ Some (x ∷ [])
+both_one f ws left right x a b e =
+    ap (λ xs. both_of f xs (range_at ws right 1)) (range_one ws left a)
+    ∙ (ap (both_of f (get_or ws left 0 ∷ [])) (range_one ws right b) ∙ ap (λ o. more o (Some [])) (sym e))

@@ -8,12 +8,15 @@ ghost use Rattle.flat_values.specs.Lanes.{both_of};
 use crate::operators::{Binary, Unary, operate_one, operate_two};
 
 /// Copies so many words from one place to another; the ranges may overlap.
+#[inline]
 pub fn copy_words(words: &mut [u32], from: usize, to: usize, count: usize)
     requires from_inside { from + count ≤ length words.old }
     requires to_inside { to + count ≤ length words.old }
     ensures { words.new ≡ copied words.old from to count }
 {
-    if to <= from {
+    if count == 1 {
+        words[to] = words[from];
+    } else if to <= from {
         copy_from_first(words, from, to, count);
     } else {
         copy_from_last(words, from, to, count);
@@ -54,7 +57,21 @@ pub fn clear_words(words: &mut [u32], place: usize, count: usize)
 }
 
 /// Writes what the operator makes of each of so many words. No word is overwritten before it is read.
+#[inline]
 pub fn operate_one_each(op: Unary, words: &mut [u32], from: usize, to: usize, count: usize)
+    requires from_inside { from + count ≤ length words.old }
+    requires to_inside { to + count ≤ length words.old }
+    requires apart { from < to → from + count ≤ to }
+    ensures { words.new ≡ written words.old to (map (unary_of op) (range_at words.old from count)) }
+{
+    if count == 1 {
+        words[to] = operate_one(op, words[from]);
+    } else {
+        operate_one_all(op, words, from, to, count);
+    }
+}
+
+fn operate_one_all(op: Unary, words: &mut [u32], from: usize, to: usize, count: usize)
     requires from_inside { from + count ≤ length words.old }
     requires to_inside { to + count ≤ length words.old }
     requires apart { from < to → from + count ≤ to }
@@ -67,7 +84,48 @@ pub fn operate_one_each(op: Unary, words: &mut [u32], from: usize, to: usize, co
 
 /// Writes what the operator makes of the words of two ranges, one by one, and says whether that is defined for all. No
 /// word is overwritten before it is read.
+#[inline]
 pub fn operate_two_each(
+    op: Binary,
+    words: &mut [u32],
+    left: usize,
+    right: usize,
+    to: usize,
+    count: usize,
+) -> bool
+    requires left_inside { left + count ≤ length words.old }
+    requires right_inside { right + count ≤ length words.old }
+    requires to_inside { to + count ≤ length words.old }
+    requires left_apart { left < to → left + count ≤ to }
+    requires right_apart { right < to → right + count ≤ to }
+    ensures { MatchOption (both_of (binary_of op) (range_at words.old left count) (range_at words.old right count)) (result ≡ false)
+        (λ xs. (result ≡ true) × (words.new ≡ written words.old to xs)) }
+{
+    if count == 1 {
+        operate_two_single(op, words, left, right, to)
+    } else {
+        operate_two_all(op, words, left, right, to, count)
+    }
+}
+
+#[inline]
+fn operate_two_single(op: Binary, words: &mut [u32], left: usize, right: usize, to: usize) -> bool
+    requires left_inside { left < length words.old }
+    requires right_inside { right < length words.old }
+    requires to_inside { to < length words.old }
+    ensures { MatchOption (both_of (binary_of op) (range_at words.old left 1) (range_at words.old right 1)) (result ≡ false)
+        (λ xs. (result ≡ true) × (words.new ≡ written words.old to xs)) }
+{
+    match operate_two(op, words[left], words[right]) {
+        Some(x) => {
+            words[to] = x;
+            true
+        }
+        None => false,
+    }
+}
+
+fn operate_two_all(
     op: Binary,
     words: &mut [u32],
     left: usize,

@@ -1,9 +1,9 @@
 use Rattle.std.proofs.Common.{arith}
 use Rattle.flat_values.specs.Operators.{unary_of}
-use Rattle.flat_values.proofs.Growing.{mapped_more}
+use Rattle.flat_values.proofs.Growing.{mapped_one}
 use Rattle.flat_values.proofs.ranges.operate_one_each.Goals as goal
 
-pub loop-k-preserved : goal.loop-k-preserved
-loop-k-preserved c =
-    mapped_more (unary_of c.args.op) c.args.words.now c.loop-k.words c.args.from c.args.to c.loop-k.k c.args.count c.operate_one.result
-    (omega arith) c.requires.from_inside c.requires.to_inside c.requires.apart c.loop-k.invariant c.operate_one.ensures
+pub returns-then-count-eq1 : goal.returns-then-count-eq1
+returns-then-count-eq1 c =
+    mapped_one (unary_of c.args.op) c.args.words.now c.args.from c.args.to c.args.count c.operate_one.result (omega arith) (omega arith)
+    c.if-count-eq1.true c.operate_one.ensures

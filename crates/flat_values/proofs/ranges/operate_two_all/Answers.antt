@@ -5,7 +5,7 @@ use Rattle.flat_values.specs.Operators.{binary_of}
 use Rattle.flat_values.specs.Ranges.{range_at, written}
 use Rattle.flat_values.specs.Lanes.{both_of}
 use Rattle.flat_values.proofs.Growing.{read_on, written_more, both_more, both_fails}
-use Rattle.flat_values.proofs.ranges.operate_two_each.Goals as goal
+use Rattle.flat_values.proofs.ranges.operate_two_all.Goals as goal
 
 -- what is operated on is what stood there at first
 from_first : (f : ℕ → ℕ → Option ℕ) (ws vs xs : List ℕ) (left right to k count : ℕ) (o : Option ℕ) → k < count → to + count ≤ length ws

@@ -2,7 +2,7 @@ use Rattle.std.proofs.Common.{◌≡◌, ℕ, List, length, Some}
 use Rattle.flat_values.specs.Operators.{binary_of}
 use Rattle.flat_values.specs.Ranges.{range_at, written}
 use Rattle.flat_values.specs.Lanes.{both_of}
-use Rattle.flat_values.proofs.ranges.operate_two_each.Given as goal
+use Rattle.flat_values.proofs.ranges.operate_two_all.Given as goal
 
 abbrev pub invariant-loop-k : goal.invariant-loop-k
 invariant-loop-k l =
