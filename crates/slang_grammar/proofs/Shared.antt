@@ -1,6 +1,5 @@
 -- What all of the descent shares: what is read is spelled.
-use Rattle.std.proofs.Common.{Bool, true, false, ◌≡◌, ℕ, ◌+◌, List, drop, length, Option, Some, None, refl, ◌∙◌, ap, if◌then◌else◌}
-use Rattle.std.specs.Prelude.{nat_le}
+use Rattle.std.proofs.Common.{Bool, true, false, ◌≡◌, ℕ, ◌+◌, List, drop, Option, Some, None, refl, ◌∙◌, ap, if◌then◌else◌}
 use Rattle.slang_tree.specs.declared.places.Place.{Place}
 use Rattle.slang_tree.specs.declared.codes.ModuleCode.TheVariants as code
 use Rattle.slang_tree.specs.declared.types.Identifier.{Identifier}
@@ -17,7 +16,7 @@ use Rattle.slang_reading.proofs.Exact.{Post, PostChoice, post_next, post_fits, R
 use Rattle.slang_grammar.specs.Standing.{Stands, NameStands, IsNot}
 use Rattle.slang_grammar.specs.Types.{TermAt}
 use Rattle.slang_grammar.specs.Types as t
-use Rattle.slang_grammar.specs.Descent.{Limits, expected, expect, identifier, if_short, named_by, named, name, termed_by, termed, bracketed}
+use Rattle.slang_grammar.specs.Descent.{Limits, expected, expect, identifier, is_short, if_short, named_by, named, name, termed_by, termed, bracketed}
 
 -- the token that is seen stands there
 pub stands : (ts : List Lexed) (at : ℕ) (tok : Lexed) (kind : Kind) → first (drop at ts) ≡ Some tok → tok.kind ≡ kind → Stands ts at kind tok.place
@@ -50,7 +49,7 @@ unfolding name
 post_name ts limits at seen = post_next ts (IsNameAt ts at) (named limits) at seen go
   where
     by : (tok : Lexed) → first (drop at ts) ≡ Some tok → (kind : Kind) → tok.kind ≡ kind → PostChoice ts (IsNameAt ts at) at (Some tok) (named_by limits tok kind)
-    by tok e k.Name d = post_fits ts (IsNameAt ts at) at (Some tok) (nat_le (length tok.bytes) limits.names) code.TooLong (Take (pure (identifier tok)))
+    by tok e k.Name d = post_fits ts (IsNameAt ts at) at (Some tok) (is_short limits tok) code.TooLong (Take (pure (identifier tok)))
         (λ f seen1. (name_stands ts at tok e d, refl))
     by tok e (k.Word w) d = tt
     by tok e (k.Number v) d = tt
@@ -69,7 +68,7 @@ unfolding bracketed
 post_bracketed ts limits at seen = post_next ts (IsTermAt ts at) (termed limits) at seen go
   where
     by : (tok : Lexed) → first (drop at ts) ≡ Some tok → (kind : Kind) → tok.kind ≡ kind → PostChoice ts (IsTermAt ts at) at (Some tok) (termed_by limits tok kind)
-    by tok e k.Name d = post_fits ts (IsTermAt ts at) at (Some tok) (nat_le (length tok.bytes) limits.names) code.TooLong (Take (pure _))
+    by tok e k.Name d = post_fits ts (IsTermAt ts at) at (Some tok) (is_short limits tok) code.TooLong (Take (pure _))
         (λ f seen1. (t.name_term (name_stands ts at tok e d), refl))
     by tok e (k.Word w) d = tt
     by tok e (k.Number v) d = λ seen1. (t.number_term (stands ts at tok (k.Number v) e d), refl)
@@ -90,7 +89,7 @@ module _ (E : Type 0) (ts : List Lexed) where
 
   module _ (e : E) (limits : Limits) where
     pub reads_short : {A : Type 0} (at : ℕ) (a : A) (to : ℕ) (t : Lexed) (c : Choice A) → ReadsChoice E ts at a to (Some t) c → ReadsChoice E ts at a to (Some t) (if_short limits t c)
-    reads_short at a to t c r = reads_fits E ts at a to (Some t) (nat_le (length t.bytes) limits.names) code.TooLong c (λ f. e) r
+    reads_short at a to t c r = reads_fits E ts at a to (Some t) (is_short limits t) code.TooLong c (λ f. e) r
 
     pub reads_name : (id : Identifier) (at seen : ℕ) → NameStands ts at id → Reads E (name limits) ts at seen id (at + 1)
     unfolding name

@@ -31,7 +31,7 @@ use Rattle.slang_grammar.proofs.Shared.{reads_expect, reads_short, reads_name, r
 
 -- ---- what a word begins
 
-use_builtin : (word : Word) (b : Builtin) → builtin_of word ≡ Some b → use_of word ≡ IsBuiltin b
+pub use_builtin : (word : Word) (b : Builtin) → builtin_of word ≡ Some b → use_of word ≡ IsBuiltin b
 use_builtin word b e = ap (λ o. builtin_use o word) e
 
 use_resource : (word : Word) (r : Resource) → resource_of word ≡ Some r → use_of word ≡ IsResource r
@@ -199,10 +199,10 @@ module _ (E : Type 0) (e : E) (limits : Limits) where
   begins (t.plain s r) room d inner = begins_name s room d inner
   begins (t.array s r o l c) room d inner = begins_name s room d inner
 
-  less_there : {ts : List Lexed} {args : List GenericArgument} {end : Place} {from to : ℕ} → ArgumentsAt ts args end from to → sees m.Less (first (drop from ts)) ≡ true
+  pub less_there : {ts : List Lexed} {args : List GenericArgument} {end : Place} {from to : ℕ} → ArgumentsAt ts args end from to → sees m.Less (first (drop from ts)) ≡ true
   less_there {ts = ts} {from = from} (t.arguments {p = p} s a r o) = is_there ts m.Less from p s
 
-  abbrev tallest : List GenericArgument → ℕ
+  abbrev pub tallest : List GenericArgument → ℕ
   tallest args = greatest (map argument_height args)
 
   tallest_one : (x : GenericArgument) → tallest (x ∷ []) ≡ argument_height x
@@ -269,7 +269,7 @@ module _ (E : Type 0) (e : E) (limits : Limits) where
         (λ seen3. reads_bind E ts (expect m.Greater) _ at seen3 (at + 1) (at + 1) end (z, height z) (reads_expect E ts m.Greater end at seen3 c)
         (λ seen4. reads_tall ts z (height x + 1) (at + 1) seen4 (height_resource (span p end) r x))))))
 
-    reads_arguments : {ts : List Lexed} {args : List GenericArgument} {end : Place} {from to : ℕ} → ArgumentsAt ts args end from to → (room : Bool) (d seen : ℕ) →
+    pub reads_arguments : {ts : List Lexed} {args : List GenericArgument} {end : Place} {from to : ℕ} → ArgumentsAt ts args end from to → (room : Bool) (d seen : ℕ) →
         Reads E (arguments limits room d (types limits d)) ts from seen ((args, tallest args), end) to
     reads_arguments {ts = ts} {from = from} (t.arguments {mid = mid} {at = at} {p = p} {end = end} {x = x} {args = args} s a r o) room d seen =
         let q = quiet_mark ts at (k.Mark m.Greater) end o refl refl refl in

@@ -19,7 +19,7 @@ use Rattle.slang_reading.specs.Kinds.{mark_code, is_mark, sees, span}
 use Rattle.slang_reading.proofs.Tame.{Tame, tame_pure, tame_past, tame_bind, Each, each_fits, tame_next, tame_turns}
 use Rattle.slang_reading.proofs.Viable.{Finishes, Viable, viable_pure, viable_past, finishes_pure, finishes_bind, viable_bind, EachPair, finishes_next_take, finishes_next_end, viable_next, pair_fits, Ready, ready_bind, ready_last, ready_turns}
 use Rattle.slang_grammar.specs.Types.{typed}
-use Rattle.slang_grammar.specs.Descent.{Limits, fits_in, expected, expect, name, identifier, if_short, named_by, named, termed_by, termed, bracketed}
+use Rattle.slang_grammar.specs.Descent.{Limits, fits_in, expected, expect, name, identifier, is_short, if_short, named_by, named, termed_by, termed, bracketed}
 use Rattle.slang_grammar.specs.TypesDescent.{Type_, Arguments, WordUse, IsBuiltin, IsResource, IsThis, IsOther, use_of, type_argument, begins_type, word_argument, argument_by, argument_of, argument, argument_more, arguments, name_rest_by, name_rest, resource_rest, node, type_word, type_by, type_of, type_name, project_rest, project_by, project, length_rest, length_by, array, type_rest, no_types, types}
 
 -- a token, at no place in particular
@@ -43,10 +43,9 @@ Any x = Unit {0}
 abbrev pub Ends : Option Lexed → Type 0
 Ends x = (sees m.Less x ≡ false) × (sees m.Dot x ≡ false) × (sees m.OpenBracket x ≡ false)
 
--- the second parser has at least the limits of the first, and none of lists and chains
+-- the second parser makes at least as many turns as the first, and has no limits of lists, names and chains
 pub record Wider (small large : Limits) : Type 0 where
   pub turns : small.turns ≤ large.turns
-  pub names : small.names ≤ large.names
   pub free : large.free ≡ true
 
 module _ (F : Option Lexed → Type 0) (a : Mark) where
@@ -72,24 +71,18 @@ module _ (F : Option Lexed → Type 0) (a : Mark) where
   pub ready_expect : Ready F (mark a ∷ []) (expect a) (expect a)
   ready_expect = record { viable = viable_expect; finishes = finishes_expect }
 
-le_test : (a b c : ℕ) → b ≤ c → nat_le a b ≡ true → nat_le a c ≡ true
-le_test a b c h e = grind (arith, nat_tests)
-
-le_zero : (a : ℕ) → nat_le 0 a ≡ true
-le_zero a = grind (arith, nat_tests)
-
 module _ (small large : Limits) (wide : Wider small large) where
-  pair_short : {A : Type 0} (F : Option Lexed → Type 0) (t : Lexed) (c d : Choice A) → EachPair (Viable F) c d → EachPair (Viable F) (if_short small t c) (if_short large t d)
-  pair_short F t c d v = pair_fits F (nat_le (length t.bytes) small.names) (nat_le (length t.bytes) large.names) code.TooLong (Some t) c d (le_test (length t.bytes) small.names large.names wide.names) v
+  pub pair_short : {A : Type 0} (F : Option Lexed → Type 0) (t : Lexed) (c d : Choice A) → EachPair (Viable F) c d → EachPair (Viable F) (if_short small t c) (if_short large t d)
+  pair_short F t c d v = pair_fits F (is_short small t) (is_short large t) code.TooLong (Some t) c d (λ e. ap (λ f. f || nat_le (length t.bytes) large.names) wide.free) v
 
-  short_here : {A : Type 0} (c : Choice A) → if_short large (token k.Name) c ≡ c
-  short_here c = ap (λ b. if_fits b code.TooLong (Some (token k.Name)) c) (le_zero large.names)
+  pub short_here : {A : Type 0} (c : Choice A) → if_short large (token k.Name) c ≡ c
+  short_here c = ap (λ f. if_fits (f || nat_le 0 large.names) code.TooLong (Some (token k.Name)) c) wide.free
 
-  pair_in : {A : Type 0} (F : Option Lexed → Type 0) (x : Option Lexed) (n a b : ℕ) (c d : Choice A) → EachPair (Viable F) c d →
+  pub pair_in : {A : Type 0} (F : Option Lexed → Type 0) (x : Option Lexed) (n a b : ℕ) (c d : Choice A) → EachPair (Viable F) c d →
       EachPair (Viable F) (if_fits (fits_in small n a) code.TooNested x c) (if_fits (fits_in large n b) code.TooNested x d)
   pair_in F x n a b c d v = pair_fits F (fits_in small n a) (fits_in large n b) code.TooNested x c d (λ e. ap (λ f. f || nat_lt n b) wide.free) v
 
-  pair_items : {A : Type 0} (F : Option Lexed → Type 0) (x : Option Lexed) (n a b : ℕ) (c d : Choice A) → EachPair (Viable F) c d →
+  pub pair_items : {A : Type 0} (F : Option Lexed → Type 0) (x : Option Lexed) (n a b : ℕ) (c d : Choice A) → EachPair (Viable F) c d →
       EachPair (Viable F) (if_fits (fits_in small n a) code.TooLong x c) (if_fits (fits_in large n b) code.TooLong x d)
   pair_items F x n a b c d v = pair_fits F (fits_in small n a) (fits_in large n b) code.TooLong x c d (λ e. ap (λ f. f || nat_lt n b) wide.free) v
 
@@ -133,7 +126,7 @@ module _ (small large : Limits) (wide : Wider small large) where
 
   -- ---- what has more room is tame, whatever it holds
 
-  tame_expect : (a : Mark) → Tame (expect a)
+  pub tame_expect : (a : Mark) → Tame (expect a)
   tame_expect a = (ready_expect Any a).viable.tame
 
   module _ (room : Bool) (d : ℕ) (inner : Parser Type_) (h : Tame inner) where
@@ -169,7 +162,7 @@ module _ (small large : Limits) (wide : Wider small large) where
     unfolding argument_more
     tame_argument_more list = tame_bind _ (λ p. tame_bind _ (λ x. tame_pure _) (argument large room d inner (length list.0)) (tame_argument (length list.0))) (expect m.Comma) (tame_expect m.Comma)
 
-    tame_arguments : Tame (arguments large room d inner)
+    pub tame_arguments : Tame (arguments large room d inner)
     unfolding arguments
     tame_arguments = tame_bind _ (λ p. tame_bind _ (λ x. tame_bind _ (λ list. tame_bind _ (λ end. tame_pure _) (expect m.Greater) (tame_expect m.Greater))
         (turns (sees m.Comma) (argument_more large room d inner) large.turns (x.0 ∷ [], x.1)) (tame_turns (sees m.Comma) (argument_more large room d inner) tame_argument_more large.turns (x.0 ∷ [], x.1)))
@@ -197,7 +190,7 @@ module _ (small large : Limits) (wide : Wider small large) where
     each_type_word t IsOther = tt
 
     each_type_by : (t : Lexed) (kind : Kind) → Each Tame (type_by large room d inner t kind)
-    each_type_by t k.Name = each_fits Tame (nat_le (length t.bytes) large.names) code.TooLong (Some t) (node large room d inner t (Take (name_rest large room d inner (identifier t))))
+    each_type_by t k.Name = each_fits Tame (is_short large t) code.TooLong (Some t) (node large room d inner t (Take (name_rest large room d inner (identifier t))))
         (each_node t (Take (name_rest large room d inner (identifier t))) (tame_name_rest (identifier t)))
     each_type_by t (k.Word word) = each_type_word t (use_of word)
     each_type_by t (k.Number v) = tt
@@ -255,14 +248,14 @@ module _ (small large : Limits) (wide : Wider small large) where
         (ready_turns Ends Ends (sees m.Dot) (project small d) (project large e) small.turns large.turns x wide.turns (λ x f. f) (λ x f. f.1) viable_project)
         ready_array
 
-  tame_types : (e : ℕ) → Tame (types large e)
+  pub tame_types : (e : ℕ) → Tame (types large e)
   unfolding types
   tame_types zero = tame_bind (type_rest large zero) (λ x. (ready_type_rest zero zero x).viable.whole) (type_name large false zero no_types) (tame_type_name false zero no_types (tame_past _ _))
   tame_types (suc e) = tame_bind (type_rest large (suc e)) (λ x. (ready_type_rest (suc e) (suc e) x).viable.whole) (type_name large true e (types large e)) (tame_type_name true e (types large e) (tame_types e))
 
   -- ---- the two beside each other
 
-  lt_test : (a b : ℕ) → (0 < a → 0 < b) → nat_lt 0 a ≡ true → nat_lt 0 b ≡ true
+  pub lt_test : (a b : ℕ) → (0 < a → 0 < b) → nat_lt 0 a ≡ true → nat_lt 0 b ≡ true
   lt_test a b h e = grind (arith, nat_tests, h)
 
   module _ (room : Bool) (d e : ℕ) (more : 0 < d → 0 < e) (p q : Parser Type_) (v : Viable Ends p q) (f : Finishes Ends (int_word ∷ []) q) where
@@ -311,7 +304,7 @@ module _ (small large : Limits) (wide : Wider small large) where
     viable_argument_more list = (ready_bind Ends Any (mark m.Comma ∷ []) (zero_number ∷ []) (expect m.Comma) (expect m.Comma) _ _ (λ rest f. tt) (ready_expect Any m.Comma)
         (λ o. ready_last Ends (zero_number ∷ []) (argument small room d p (length list.0)) (argument large true e q (length list.0)) (λ x. (list.0 ++ x.0 ∷ [], max list.1 x.1)) (ready_argument (length list.0)))).viable
 
-    ready_arguments : Ready Any (mark m.Less ∷ zero_number ∷ mark m.Greater ∷ []) (arguments small room d p) (arguments large true e q)
+    pub ready_arguments : Ready Any (mark m.Less ∷ zero_number ∷ mark m.Greater ∷ []) (arguments small room d p) (arguments large true e q)
     unfolding arguments
     ready_arguments = ready_bind Any Any (mark m.Less ∷ []) (zero_number ∷ mark m.Greater ∷ []) (expect m.Less) (expect m.Less) _ _ (λ rest f. tt) (ready_expect Any m.Less)
         (λ o. ready_bind Any Ends (zero_number ∷ []) (mark m.Greater ∷ []) (argument small room d p 0) (argument large true e q 0) _ _ (λ rest f. (refl, refl, refl)) (ready_argument 0)
@@ -368,7 +361,7 @@ module _ (small large : Limits) (wide : Wider small large) where
         finishes_int e q = finishes_next_take Ends (type_of large true e q) int_word [] (pure _) refl (finishes_pure Ends _)
 
   -- with one node of room the shortest type is read
-  finishes_types : (e : ℕ) → Finishes Ends (int_word ∷ []) (types large (suc e))
+  pub finishes_types : (e : ℕ) → Finishes Ends (int_word ∷ []) (types large (suc e))
   unfolding types type_name
   finishes_types e = finishes_bind Ends Ends (type_name large true e (types large e)) (type_rest large (suc e)) [] (λ rest c. c) (int_word ∷ [])
       (finishes_next_take Ends (type_of large true e (types large e)) int_word [] (pure _) refl (finishes_pure Ends _)) (λ x. (ready_type_rest (suc e) (suc e) x).finishes)

@@ -1,6 +1,6 @@
 -- Types: what the descent reads is spelled.
 use Rattle.std.proofs.Common.{Bool, true, false, ◌≡◌, ℕ, zero, suc, ◌+◌, max, List, [], ◌∷◌, ◌++◌, drop, length, Option, Some, None, refl, sym, ◌∙◌, ap, subst}
-use Rattle.std.specs.Prelude.{nat_le, nat_lt}
+use Rattle.std.specs.Prelude.{nat_lt}
 use Rattle.slang_tree.specs.declared.places.Place.{Place}
 use Rattle.slang_tree.specs.declared.codes.ModuleCode.TheVariants as code
 use Rattle.slang_tree.specs.declared.types.Identifier.{Identifier}
@@ -21,7 +21,7 @@ use Rattle.slang_grammar.specs.Tables.{builtin_of, resource_of}
 use Rattle.slang_grammar.specs.Standing.{Stands, NameStands}
 use Rattle.slang_grammar.specs.Types as t
 use Rattle.slang_grammar.specs.Types.{typed, TypeAt, TypeNameAt, ProjectionsAt, ArgumentsAt, MoreArgumentsAt, ArgumentAt}
-use Rattle.slang_grammar.specs.Descent.{Limits, fits_in, expect, name, identifier, bracketed}
+use Rattle.slang_grammar.specs.Descent.{Limits, fits_in, expect, name, identifier, is_short, bracketed}
 use Rattle.slang_grammar.specs.TypesDescent.{Type_, Argument, Arguments, WordUse, IsBuiltin, IsResource, IsThis, IsOther, use_of, type_argument, begins_type, word_argument, argument_by, argument_of, argument, argument_more, arguments, name_rest_by, name_rest, resource_rest, node, type_word, type_by, type_of, type_name, project_rest, project_by, project, length_rest, length_by, array, type_rest, no_types, types}
 use Rattle.slang_grammar.proofs.Shared.{stands, name_stands, IsMarkAt, post_expect, IsNameAt, post_name, IsTermAt, post_bracketed}
 
@@ -172,7 +172,7 @@ module _ (ts : List Lexed) (limits : Limits) (room : Bool) (d : ℕ) (inner : Pa
   post_type_word at tok word s IsOther q = tt
 
   post_type_by : (at : ℕ) (tok : Lexed) → first (drop at ts) ≡ Some tok → (kind : Kind) → tok.kind ≡ kind → PostChoice ts (IsTypeNameAt at) at (Some tok) (type_by limits room d inner tok kind)
-  post_type_by at tok e k.Name q = post_fits ts (IsTypeNameAt at) at (Some tok) (nat_le (length tok.bytes) limits.names) code.TooLong (node limits room d inner tok (Take (name_rest limits room d inner (identifier tok))))
+  post_type_by at tok e k.Name q = post_fits ts (IsTypeNameAt at) at (Some tok) (is_short limits tok) code.TooLong (node limits room d inner tok (Take (name_rest limits room d inner (identifier tok))))
       (λ f. post_node at tok (Take (name_rest limits room d inner (identifier tok))) (λ seen1. post_name_rest (identifier tok) at seen1 (name_stands ts at tok e q)))
   post_type_by at tok e (k.Word word) q = post_type_word at tok word (stands ts at tok (k.Word word) e q) (use_of word) (use_is word)
   post_type_by at tok e (k.Number v) q = tt

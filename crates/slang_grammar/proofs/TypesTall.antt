@@ -1,6 +1,6 @@
 -- Types: the number beside an answer is how many nodes stand on its longest path.
 use Rattle.std.proofs.Common.{Bool, true, false, ◌≡◌, ℕ, zero, suc, ◌+◌, max, List, [], ◌∷◌, map, length, Option, Some, None, ◌∙◌, ap, arith}
-use Rattle.std.specs.Prelude.{nat_le, nat_lt}
+use Rattle.std.specs.Prelude.{nat_lt}
 use Rattle.slang_tree.specs.declared.places.Place.{Place}
 use Rattle.slang_tree.specs.declared.codes.ModuleCode.TheVariants as code
 use Rattle.slang_tree.specs.declared.types.Identifier.{Identifier}
@@ -14,7 +14,7 @@ use Rattle.slang_reading.specs.Reading.{Parser, Choice, Leave, Take, pure, turns
 use Rattle.slang_reading.specs.Kinds.{sees, span}
 use Rattle.slang_reading.proofs.Exact.{Post, PostChoice, post_bind, post_next, post_fits, post_turns, post_unit}
 use Rattle.slang_grammar.specs.Types.{typed}
-use Rattle.slang_grammar.specs.Descent.{Limits, fits_in, expect, name, identifier, bracketed}
+use Rattle.slang_grammar.specs.Descent.{Limits, fits_in, expect, name, identifier, is_short, bracketed}
 use Rattle.slang_grammar.specs.Heights.{greatest, height, argument_height}
 use Rattle.slang_grammar.specs.TypesDescent.{Type_, Argument, Arguments, WordUse, IsBuiltin, IsResource, IsThis, IsOther, use_of, type_argument, begins_type, word_argument, argument_by, argument_of, argument, argument_more, arguments, name_rest_by, name_rest, resource_rest, node, type_word, type_by, type_of, type_name, project_rest, project_by, project, length_rest, length_by, array, type_rest, no_types, types}
 use Rattle.slang_grammar.proofs.Heights.{height_builtin, height_this, height_named, height_resource, height_projection, height_array, height_term, height_number, greatest_more}
@@ -69,7 +69,7 @@ module _ (ts : List Lexed) (limits : Limits) (room : Bool) (d : ℕ) (inner : Pa
       (λ p mid seen1 u. post_bind ts TallArgument (λ b to. Stays list b at to) (argument limits room d inner (length list.0)) _ mid seen1 (tall_argument (length list.0) mid seen1)
       (λ x to seen2 r s. greatest_more list.0 x.0 ∙ (ap (λ a. max a (argument_height x.0)) s ∙ ap (max list.1) r)))
 
-  tall_arguments : (at seen : ℕ) → Post (λ (r : Arguments × Place) (to : ℕ). greatest (map argument_height r.0.0) ≡ r.0.1) (arguments limits room d inner ts at seen)
+  pub tall_arguments : (at seen : ℕ) → Post (λ (r : Arguments × Place) (to : ℕ). greatest (map argument_height r.0.0) ≡ r.0.1) (arguments limits room d inner ts at seen)
   unfolding arguments
   tall_arguments at seen =
       let Q : Arguments × Place → ℕ → Type 0 = λ r to. greatest (map argument_height r.0.0) ≡ r.0.1 in
@@ -106,7 +106,7 @@ module _ (ts : List Lexed) (limits : Limits) (room : Bool) (d : ℕ) (inner : Pa
   tall_type_word at t IsOther = tt
 
   tall_type_by : (at : ℕ) (t : Lexed) (kind : Kind) → PostChoice ts Tall at (Some t) (type_by limits room d inner t kind)
-  tall_type_by at t k.Name = post_fits ts Tall at (Some t) (nat_le (length t.bytes) limits.names) code.TooLong (node limits room d inner t (Take (name_rest limits room d inner (identifier t))))
+  tall_type_by at t k.Name = post_fits ts Tall at (Some t) (is_short limits t) code.TooLong (node limits room d inner t (Take (name_rest limits room d inner (identifier t))))
       (λ f. tall_node at t (Take (name_rest limits room d inner (identifier t))) (λ seen1. tall_name_rest (identifier t) (at + 1) seen1))
   tall_type_by at t (k.Word word) = tall_type_word at t (use_of word)
   tall_type_by at t (k.Number v) = tt

@@ -12,12 +12,12 @@ use Rattle.slang_grammar.specs.TypesDescent.{Type_, types}
 use Rattle.slang_grammar.proofs.TypesSpelled.{post_types}
 use Rattle.slang_grammar.proofs.TypesReady.{Ends, Wider, ready_types}
 
--- the same limits, and none of lists and chains
+-- the same limits, and none of lists, names and chains
 abbrev freed : Limits → Limits
 freed limits = record { turns = limits.turns; items = limits.items; names = limits.names; free = true }
 
 freed_wider : (limits : Limits) → Wider limits (freed limits)
-freed_wider limits = record { turns = omega arith; names = omega arith; free = refl }
+freed_wider limits = record { turns = omega arith; free = refl }
 
 pub types_go_on : (ts : List Lexed) (limits : Limits) (d at : ℕ) → types limits d ts 0 0 ≡ Stop (at + 1) →
     (more : List Lexed) × (x : TypeTree) × TypeAt (take at ts ++ more) x 0 (length (take at ts ++ more))

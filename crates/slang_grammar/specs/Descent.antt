@@ -13,8 +13,8 @@ use Rattle.slang_reading.specs.Lexed.{Lexed}
 use Rattle.slang_reading.specs.Reading.{Parser, Choice, Take, Refuse, if_fits, pure, next}
 use Rattle.slang_reading.specs.Kinds.{is_mark}
 
--- How many turns a loop makes, items a list has, and bytes a name has, at most. A free parser lets lists be of any length
--- and chains of any height; the program's is not, and is compared with one that is.
+-- How many turns a loop makes, items a list has, and bytes a name has, at most. A free parser lets lists and names be of any
+-- length and chains of any height; the program's is not, but where it looks ahead, and is compared with one that is.
 pub record Limits : Type 0 where
   pub turns : ℕ
   pub items : ℕ
@@ -37,9 +37,13 @@ expect mark = next (expected mark)
 abbrev pub identifier : Lexed → Identifier
 identifier t = record { place = t.place; name = t.bytes }
 
+-- whether a name is short enough
+abbrev pub is_short : Limits → Lexed → Bool
+is_short limits t = limits.free || nat_le (length t.bytes) limits.names
+
 -- what begins with a name, unless the name is too long
 abbrev pub if_short : {A : Type 0} → Limits → Lexed → Choice A → Choice A
-if_short limits t c = if_fits (nat_le (length t.bytes) limits.names) code.TooLong (Some t) c
+if_short limits t c = if_fits (is_short limits t) code.TooLong (Some t) c
 
 abbrev pub named_by : Limits → Lexed → Kind → Choice Identifier
 named_by limits t k.Name = if_short limits t (Take (pure (identifier t)))

@@ -1,5 +1,5 @@
 -- The descent into expressions. An answer is an expression and how many nodes stand on its longest path; each parser has a
--- number of nodes that it may put on a path. Nothing is proved of these definitions yet.
+-- number of nodes that it may put on a path.
 use Rattle.std.specs.Prelude.{ℕ, zero, suc, ◌+◌, max, Bool, true, false, ◌||◌, ◌&&◌, ◌==◌, if◌then◌else◌, nat_lt, List, [], ◌∷◌, ◌++◌, length, Option, Some, None}
 use Rattle.slang_tree.specs.declared.places.Place.{Place}
 use Rattle.slang_tree.specs.declared.codes.ModuleCode.TheVariants as code
@@ -35,7 +35,7 @@ Values = List ExprTree × ℕ
 
 -- ---- generic arguments behind a name
 
--- the same limits, and none of lists and chains
+-- the same limits, and none of lists, names and chains
 abbrev pub freed : Limits → Limits
 freed limits = record { turns = limits.turns; items = limits.items; names = limits.names; free = true }
 

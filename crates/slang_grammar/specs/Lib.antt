@@ -4,5 +4,6 @@ pub mod Types
 pub mod Expressions
 pub mod Heights
 pub mod Descent
+pub mod Sizes
 pub mod TypesDescent
 pub mod ExpressionsDescent

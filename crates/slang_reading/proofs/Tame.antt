@@ -1,6 +1,6 @@
 -- What every parser does that is built of these parts: indices never shrink, no more is looked at than there is, and
 -- what is looked at decides the outcome.
-use Rattle.std.proofs.Common.{Bool, true, false, ◌≡◌, ℕ, zero, suc, ◌+◌, ◌<◌, ◌≤◌, max, List, [], ◌∷◌, length, drop, Option, Some, None, refl, ◌∙◌, ap, arith}
+use Rattle.std.proofs.Common.{Bool, true, false, ◌≡◌, ℕ, zero, suc, ◌+◌, ◌<◌, ◌≤◌, max, List, [], ◌∷◌, length, drop, Option, Some, None, refl, ◌∙◌, ap, subst, arith}
 use Rattle.slang_tree.specs.declared.places.Place.{Place}
 use Rattle.slang_tree.specs.declared.codes.ModuleCode.{ModuleCode}
 use Rattle.slang_tree.specs.declared.codes.ModuleCode.TheVariants as code
@@ -18,6 +18,12 @@ abbrev pub seen_of : {A : Type 0} → Outcome A → ℕ
 seen_of (Done a at seen) = seen
 seen_of (Stop seen) = seen
 seen_of (Past code place seen) = seen
+
+-- the outcome without what has been looked at
+abbrev pub answer_of : {A : Type 0} → Outcome A → Outcome A
+answer_of (Done a at seen) = Done a at 0
+answer_of (Stop seen) = Stop 0
+answer_of (Past code place seen) = Past code place 0
 
 abbrev pub Rises : {A : Type 0} → ℕ → ℕ → Outcome A → Type 0
 Rises at seen (Done a at1 seen1) = (at ≤ at1) × (seen ≤ seen1)
@@ -43,12 +49,15 @@ pub record Tame {A : Type 0} (p : Parser A) : Type 0 where
   pub rises : (ts : List Lexed) (at seen : ℕ) → Rises at seen (p ts at seen)
   pub bounded : (ts : List Lexed) (at seen : ℕ) → at ≤ length ts → seen ≤ length ts + 1 → Bounded (length ts) (p ts at seen)
   pub local : (ts us : List Lexed) (at seen : ℕ) → Same (seen_of (p ts at seen)) ts us → p us at seen ≡ p ts at seen
+  -- what has been looked at before changes no answer
+  pub steady : (ts : List Lexed) (at seen other : ℕ) → answer_of (p ts at seen) ≡ answer_of (p ts at other)
 
 pub tame_pure : {A : Type 0} (a : A) → Tame (pure a)
 tame_pure a = record {
   rises = λ ts at seen. (omega arith, omega arith);
   bounded = λ ts at seen h k. (h, k);
   local = λ ts us at seen s. refl;
+  steady = λ ts at seen other. refl;
 }
 
 pub tame_refuse : {A : Type 0} → Tame (refuse {A = A})
@@ -56,6 +65,7 @@ tame_refuse = record {
   rises = λ ts at seen. omega arith;
   bounded = λ ts at seen h k. k;
   local = λ ts us at seen s. refl;
+  steady = λ ts at seen other. refl;
 }
 
 pub tame_past : {A : Type 0} (code : ModuleCode) (place : Place) → Tame (past {A = A} code place)
@@ -63,6 +73,7 @@ tame_past code place = record {
   rises = λ ts at seen. omega arith;
   bounded = λ ts at seen h k. k;
   local = λ ts us at seen s. refl;
+  steady = λ ts at seen other. refl;
 }
 
 -- ---- one after the other
@@ -90,6 +101,24 @@ module _ {A B : Type 0} (g : A → Parser B) (hg : (a : A) → Tame (g a)) where
   after_local ts us (Stop seen1) s = refl
   after_local ts us (Past code place seen1) s = refl
 
+  after_steady : (ts : List Lexed) (o u : Outcome A) → answer_of o ≡ answer_of u →
+      answer_of (and_then o (λ a at1 seen1. g a ts at1 seen1)) ≡ answer_of (and_then u (λ a at1 seen1. g a ts at1 seen1))
+  after_steady ts (Done a at seen) (Done b to other) e =
+      let p : a ≡ b = cc in
+      let q : at ≡ to = cc in
+      subst (λ n. answer_of (g a ts at seen) ≡ answer_of (g b ts n other)) q (subst (λ x. answer_of (g a ts at seen) ≡ answer_of (g x ts at other)) p ((hg a).steady ts at seen other))
+  after_steady ts (Stop seen) (Stop other) e = refl
+  after_steady ts (Past code place seen) (Past code2 place2 other) e = e_past e
+    where
+      e_past : ◌≡◌ {A = Outcome A} (Past code place 0) (Past code2 place2 0) → ◌≡◌ {A = Outcome B} (Past code place 0) (Past code2 place2 0)
+      e_past e = cc
+  after_steady ts (Done a at seen) (Stop other) e = cc
+  after_steady ts (Done a at seen) (Past code place other) e = cc
+  after_steady ts (Stop seen) (Done b to other) e = cc
+  after_steady ts (Stop seen) (Past code place other) e = cc
+  after_steady ts (Past code place seen) (Done b to other) e = cc
+  after_steady ts (Past code place seen) (Stop other) e = cc
+
   pub tame_bind : (p : Parser A) → Tame p → Tame (p >>= g)
   unfolding bind
   tame_bind p hp = record {
@@ -98,6 +127,7 @@ module _ {A B : Type 0} (g : A → Parser B) (hg : (a : A) → Tame (g a)) where
     local = λ ts us at seen s.
         let same = hp.local ts us at seen (same_less _ _ ts us (first_seen ts (p ts at seen)) s) in
         ap (λ o. and_then o (λ a at1 seen1. g a us at1 seen1)) same ∙ after_local ts us (p ts at seen) s;
+    steady = λ ts at seen other. after_steady ts (p ts at seen) (p ts at other) (hp.steady ts at seen other);
   }
 
 -- ---- the next token
@@ -148,6 +178,13 @@ chosen_local None (Take p) h ts us at seen s = refl
 chosen_local x Refuse h ts us at seen s = refl
 chosen_local x (Pass code place) h ts us at seen s = refl
 
+chosen_steady : {A : Type 0} (x : Option Lexed) (c : Choice A) → Each Tame c → (ts : List Lexed) (at seen other : ℕ) → answer_of (chosen x c ts at seen) ≡ answer_of (chosen x c ts at other)
+chosen_steady x (Leave p) h ts at seen other = h.steady ts at seen other
+chosen_steady (Some t) (Take p) h ts at seen other = h.steady ts (at + 1) seen other
+chosen_steady None (Take p) h ts at seen other = refl
+chosen_steady x Refuse h ts at seen other = refl
+chosen_steady x (Pass code place) h ts at seen other = refl
+
 pub tame_next : {A : Type 0} (f : Option Lexed → Choice A) → ((x : Option Lexed) → Each Tame (f x)) → Tame (next f)
 unfolding next
 tame_next f h = record {
@@ -156,6 +193,7 @@ tame_next f h = record {
   local = λ ts us at seen s.
       let e = s.at at (chosen_seen (first (drop at ts)) (f (first (drop at ts))) (h _) ts at seen) in
       ap (λ x. chosen x (f x) us at (max seen (at + 1))) e ∙ chosen_local (first (drop at ts)) (f (first (drop at ts))) (h _) ts us at seen s;
+  steady = λ ts at seen other. chosen_steady (first (drop at ts)) (f (first (drop at ts))) (h _) ts at (max seen (at + 1)) (max other (at + 1));
 }
 
 -- a limit at the token makes no choice wild
@@ -189,6 +227,24 @@ module _ {A B : Type 0} (f : Option B → Parser A) (hf : (b : Option B) → Tam
   tried_local ts us at (Stop seen1) s = (hf None).local ts us at seen1 s
   tried_local ts us at (Past code place seen1) s = refl
 
+  tried_steady : (ts : List Lexed) (at : ℕ) (o u : Outcome B) → answer_of o ≡ answer_of u → answer_of (tried o f ts at) ≡ answer_of (tried u f ts at)
+  tried_steady ts at (Done b at1 seen) (Done c to other) e =
+      let p : b ≡ c = cc in
+      let q : at1 ≡ to = cc in
+      subst (λ n. answer_of (f (Some b) ts at1 seen) ≡ answer_of (f (Some c) ts n other)) q
+      (subst (λ x. answer_of (f (Some b) ts at1 seen) ≡ answer_of (f (Some x) ts at1 other)) p ((hf (Some b)).steady ts at1 seen other))
+  tried_steady ts at (Stop seen) (Stop other) e = (hf None).steady ts at seen other
+  tried_steady ts at (Past code place seen) (Past code2 place2 other) e = e_past e
+    where
+      e_past : ◌≡◌ {A = Outcome B} (Past code place 0) (Past code2 place2 0) → ◌≡◌ {A = Outcome A} (Past code place 0) (Past code2 place2 0)
+      e_past e = cc
+  tried_steady ts at (Done b at1 seen) (Stop other) e = cc
+  tried_steady ts at (Done b at1 seen) (Past code place other) e = cc
+  tried_steady ts at (Stop seen) (Done b to other) e = cc
+  tried_steady ts at (Stop seen) (Past code place other) e = cc
+  tried_steady ts at (Past code place seen) (Done b to other) e = cc
+  tried_steady ts at (Past code place seen) (Stop other) e = cc
+
   pub tame_attempt : (q : Parser B) → Tame q → Tame (attempt q f)
   unfolding attempt
   tame_attempt q hq = record {
@@ -197,6 +253,7 @@ module _ {A B : Type 0} (f : Option B → Parser A) (hf : (b : Option B) → Tam
     local = λ ts us at seen s.
         let same = hq.local ts us at seen (same_less _ _ ts us (tried_seen ts at (q ts at seen)) s) in
         ap (λ o. tried o f us at) same ∙ tried_local ts us at (q ts at seen) s;
+    steady = λ ts at seen other. tried_steady ts at (q ts at seen) (q ts at other) (hq.steady ts at seen other);
   }
 
 -- ---- a part that is looked at ahead
@@ -222,6 +279,20 @@ module _ {A B : Type 0} (f : Bool → Parser A) (hf : (b : Bool) → Tame (f b))
   foreseen_local ts us at (Stop seen1) s = (hf false).local ts us at seen1 s
   foreseen_local ts us at (Past code place seen1) s = refl
 
+  foreseen_steady : (ts : List Lexed) (at : ℕ) (o u : Outcome B) → answer_of o ≡ answer_of u → answer_of (foreseen o f ts at) ≡ answer_of (foreseen u f ts at)
+  foreseen_steady ts at (Done b at1 seen) (Done c to other) e = (hf true).steady ts at seen other
+  foreseen_steady ts at (Stop seen) (Stop other) e = (hf false).steady ts at seen other
+  foreseen_steady ts at (Past code place seen) (Past code2 place2 other) e = e_past e
+    where
+      e_past : ◌≡◌ {A = Outcome B} (Past code place 0) (Past code2 place2 0) → ◌≡◌ {A = Outcome A} (Past code place 0) (Past code2 place2 0)
+      e_past e = cc
+  foreseen_steady ts at (Done b at1 seen) (Stop other) e = cc
+  foreseen_steady ts at (Done b at1 seen) (Past code place other) e = cc
+  foreseen_steady ts at (Stop seen) (Done b to other) e = cc
+  foreseen_steady ts at (Stop seen) (Past code place other) e = cc
+  foreseen_steady ts at (Past code place seen) (Done b to other) e = cc
+  foreseen_steady ts at (Past code place seen) (Stop other) e = cc
+
   pub tame_foresee : (q : Parser B) → Tame q → Tame (foresee q f)
   unfolding foresee
   tame_foresee q hq = record {
@@ -230,6 +301,7 @@ module _ {A B : Type 0} (f : Bool → Parser A) (hf : (b : Bool) → Tame (f b))
     local = λ ts us at seen s.
         let same = hq.local ts us at seen (same_less _ _ ts us (foreseen_seen ts at (q ts at seen)) s) in
         ap (λ o. foreseen o f us at) same ∙ foreseen_local ts us at (q ts at seen) s;
+    steady = λ ts at seen other. foreseen_steady ts at (q ts at seen) (q ts at other) (hq.steady ts at seen other);
   }
 
 -- ---- turns

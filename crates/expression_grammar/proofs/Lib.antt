@@ -1,0 +1,13 @@
+pub mod Heights
+pub mod Sizes
+pub mod Fitting
+pub mod Tables
+pub mod Parts
+pub mod Ahead
+pub mod Quiet
+pub mod Spelled
+pub mod Tall
+pub mod Read
+pub mod Completing
+pub mod Ready
+pub mod Wrong
