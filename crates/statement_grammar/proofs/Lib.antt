@@ -1,0 +1,4 @@
+mod Examples
+mod Shared
+mod Uses
+mod AttributesSpelled
