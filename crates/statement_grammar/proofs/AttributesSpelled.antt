@@ -27,8 +27,8 @@ use Rattle.statement_grammar.specs.AttributeTables.{attribute_of}
 use Rattle.statement_grammar.specs.Attributes as t
 use Rattle.statement_grammar.specs.Attributes.{attributed, unquoted, StringStands, SpelledStands, LiteralAt, MoreLiteralsAt, AttributeRestAt, BindingAt, AttributeAt, AttributesAt}
 use Rattle.statement_grammar.specs.AttributeRules.{Want, wants_of}
-use Rattle.statement_grammar.specs.AttributesDescent.{Given, Literals, Noted, wanted, later, wants_more, with_literal, literal_by, literal_at, literal, comma_by, literal_more, close_by, close, literals, rest_by, attribute_rest, admits, noted, spelled_by, spelled_at, spelled, number_by, number_at, number, named, binding_rest, binding_by, binding_at, binding, attribute_by, attribute_at, attribute, attributes}
-use Rattle.statement_grammar.proofs.Shared.{post_both, post_obeyed}
+use Rattle.statement_grammar.specs.AttributesDescent.{Given, if_obeyed, Literals, Noted, wanted, later, wants_more, with_literal, literal_by, literal_at, literal, comma_by, literal_more, close_by, close, literals, rest_by, attribute_rest, admits, noted, spelled_by, spelled_at, spelled, number_by, number_at, number, named, binding_rest, binding_by, binding_at, binding, attribute_by, attribute_at, attribute, attributes}
+use Rattle.statement_grammar.proofs.Shared.{post_both, post_obeyed, post_short}
 
 string_stands : (ts : List Lexed) (at : ℕ) (tok : Lexed) → first (drop at ts) ≡ Some tok → tok.kind ≡ k.String → StringStands ts at tok.place tok.bytes
 string_stands ts at tok e d = record { is = e ∙ ap (λ k. Some (record { kind = k; place = tok.place; bytes = tok.bytes })) d }
@@ -212,3 +212,69 @@ module _ (ts : List Lexed) (limits : Limits) (targets : List Target) (given : Gi
         last = subst (λ i. Stands ts i (k.Mark m.CloseBracket) end) n6 e7.0;
       } in
       (attributed (span begin end) (n.Binding x y), subst (λ i. AttributeAt ts (attributed (span begin end) (n.Binding x y)) at i) (sym n7) (t.binding o o2 r), refl))))))))
+
+  post_binding : (begin q : Place) (at seen : ℕ) → Stands ts at (k.Mark m.OpenBracket) begin → Stands ts (at + 1) (k.Mark m.OpenBracket) q →
+      Post (IsOne at) (binding limits targets given begin ts (at + 1 + 1) seen)
+  unfolding binding IsSpelled
+  post_binding begin q at seen o o2 = post_bind ts (IsSpelled ts (codes "vk") (at + 1 + 1)) (IsOne at) (spelled (codes "vk")) _ (at + 1 + 1) seen (post_spelled ts (codes "vk") (at + 1 + 1) seen)
+      (λ p a1 s1 v. post_bind ts (IsMarkAt ts m.DoubleColon a1) (IsOne at) (expect m.DoubleColon) _ a1 s1 (post_expect ts m.DoubleColon a1 s1)
+      (λ r a2 s2 d. let n2 = d.1 ∙ ap (λ i. i + 1) v.1 in
+      subst (λ i. Post (IsOne at) (next (binding_at limits targets given begin p) ts i s2)) (sym n2)
+      (post_next ts (IsOne at) (binding_at limits targets given begin p) (at + 1 + 1 + 1 + 1) s2
+      (λ x e. go p r v.0 (subst (λ i. Stands ts i (k.Mark m.DoubleColon) r) v.1 d.0) x e))))
+    where
+      test : (p r : Place) → SpelledStands ts (at + 1 + 1) p (codes "vk") → Stands ts (at + 1 + 1 + 1) (k.Mark m.DoubleColon) r → (tok : Lexed) → first (drop (at + 1 + 1 + 1 + 1) ts) ≡ Some tok →
+          tok.kind ≡ k.Name → (b : Bool) → bytes_eq (codes "binding") tok.bytes ≡ b → PostChoice ts (IsOne at) (at + 1 + 1 + 1 + 1) (Some tok)
+          (if b then if_obeyed (limits.free || admits targets given.1 (Some known.Binding) (span p tok.place)) (span p tok.place) (Take (binding_rest limits targets given begin (span p tok.place))) else Refuse)
+      test p r v d tok e c true h = post_obeyed ts (IsOne at) (at + 1 + 1 + 1 + 1) (Some tok) (limits.free || admits targets given.1 (Some known.Binding) (span p tok.place)) (span p tok.place)
+          (Take (binding_rest limits targets given begin (span p tok.place)))
+          (λ s3. post_binding_rest begin (span p tok.place) p r tok.place q at s3 o o2 v d (spelled_stands ts (at + 1 + 1 + 1 + 1) tok (codes "binding") e c h))
+      test p r v d tok e c false h = tt
+
+      by : (p r : Place) → SpelledStands ts (at + 1 + 1) p (codes "vk") → Stands ts (at + 1 + 1 + 1) (k.Mark m.DoubleColon) r → (tok : Lexed) → first (drop (at + 1 + 1 + 1 + 1) ts) ≡ Some tok →
+          (kind : Kind) → tok.kind ≡ kind → PostChoice ts (IsOne at) (at + 1 + 1 + 1 + 1) (Some tok) (binding_by limits targets given begin p tok kind)
+      by p r v d tok e k.Name c = test p r v d tok e c (bytes_eq (codes "binding") tok.bytes) refl
+      by p r v d tok e (k.Word word) c = tt
+      by p r v d tok e (k.Number x) c = tt
+      by p r v d tok e k.String c = tt
+      by p r v d tok e (k.Mark mark) c = tt
+
+      go : (p r : Place) → SpelledStands ts (at + 1 + 1) p (codes "vk") → Stands ts (at + 1 + 1 + 1) (k.Mark m.DoubleColon) r → (x : Option Lexed) → first (drop (at + 1 + 1 + 1 + 1) ts) ≡ x →
+          PostChoice ts (IsOne at) (at + 1 + 1 + 1 + 1) x (binding_at limits targets given begin p x)
+      go p r v d (Some tok) e = by p r v d tok e tok.kind refl
+      go p r v d None e = tt
+
+  post_attribute_by : (begin : Place) (at : ℕ) → Stands ts at (k.Mark m.OpenBracket) begin → (tok : Lexed) → first (drop (at + 1) ts) ≡ Some tok → (kind : Kind) → tok.kind ≡ kind →
+      PostChoice ts (IsOne at) (at + 1) (Some tok) (attribute_by limits targets given begin tok kind)
+  post_attribute_by begin at o tok e k.Name d = post_obeyed ts (IsOne at) (at + 1) (Some tok) (limits.free || admits targets given.1 (attribute_of tok.bytes) tok.place) tok.place
+      (if_short limits tok (Take (named limits targets given begin (identifier tok) (attribute_of tok.bytes))))
+      (post_short ts limits (IsOne at) (at + 1) tok (Take (named limits targets given begin (identifier tok) (attribute_of tok.bytes)))
+      (λ s1. post_named begin (identifier tok) (attribute_of tok.bytes) at s1 o (name_stands ts (at + 1) tok e d)))
+  post_attribute_by begin at o tok e (k.Mark m.OpenBracket) d = λ s1. post_binding begin tok.place at s1 o (stands ts (at + 1) tok (k.Mark m.OpenBracket) e d)
+  post_attribute_by begin at o tok e (k.Word word) d = tt
+  post_attribute_by begin at o tok e (k.Number x) d = tt
+  post_attribute_by begin at o tok e k.String d = tt
+  post_attribute_by begin at o tok e (k.Mark _) d = tt
+
+  post_attribute : (at seen : ℕ) → Post (IsOne at) (attribute limits targets given ts at seen)
+  unfolding attribute
+  post_attribute at seen = post_bind ts (IsMarkAt ts m.OpenBracket at) (IsOne at) (expect m.OpenBracket) _ at seen (post_expect ts m.OpenBracket at seen)
+      (λ p mid s1 o. subst (λ i. Post (IsOne at) (next (attribute_at limits targets given p) ts i s1)) (sym o.1)
+      (post_next ts (IsOne at) (attribute_at limits targets given p) (at + 1) s1 (λ x e. go p o.0 x e)))
+    where
+      go : (p : Place) → Stands ts at (k.Mark m.OpenBracket) p → (x : Option Lexed) → first (drop (at + 1) ts) ≡ x → PostChoice ts (IsOne at) (at + 1) x (attribute_at limits targets given p x)
+      go p o (Some tok) e = post_attribute_by p at o tok e tok.kind refl
+      go p o None e = tt
+
+pub post_attributes : (ts : List Lexed) (limits : Limits) (targets : List Target) (at seen : ℕ) → Post (λ a to. AttributesAt ts [] a.0 at to) (attributes limits targets ts at seen)
+unfolding attributes IsOne
+post_attributes ts limits targets at seen =
+    let goes = sees m.OpenBracket in
+    let R : Given → Given → ℕ → ℕ → Type 0 = λ a c from to. IsNot ts m.OpenBracket to → AttributesAt ts a.0 c.0 from to in
+    post_weaken (λ (c : Given) to. R ([], []) c at to × (goes (first (drop to ts)) ≡ false)) (λ (c : Given) to. AttributesAt ts [] c.0 at to) (λ c to h. h.0 (record { is = h.1 }))
+    (turns goes (attribute limits targets) limits.turns ([], []) ts at seen)
+    (post_both (λ (c : Given) to. R ([], []) c at to) (λ (c : Given) to. goes (first (drop to ts)) ≡ false) (turns goes (attribute limits targets) limits.turns ([], []) ts at seen)
+    (post_turns ts R (λ (a b : Given) from to. IsOne ts limits targets a from b to) goes (attribute limits targets) (λ a at q. t.end q)
+    (λ a b c from mid to o r q. t.more o.1 (subst (λ list. AttributesAt ts list c.0 mid to) o.2 (r q)))
+    (λ a from s e. post_attribute ts limits targets a from s) limits.turns ([], []) at seen)
+    (post_over ts goes (attribute limits targets) limits.turns ([], []) at seen))

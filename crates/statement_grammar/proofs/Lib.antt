@@ -2,3 +2,5 @@ mod Examples
 mod Shared
 mod Uses
 mod AttributesSpelled
+mod LocalsSpelled
+mod StatementsSpelled
