@@ -1,0 +1,5 @@
+pub mod Tables
+pub mod Parts
+pub mod PartsDescent
+pub mod Declarations
+pub mod DeclarationsDescent

@@ -1,0 +1,6 @@
+mod Examples
+mod Shared
+mod Uses
+mod AttributesSpelled
+mod LocalsSpelled
+mod StatementsSpelled
