@@ -1,6 +1,8 @@
 mod Examples
-mod Shared
-mod Uses
-mod AttributesSpelled
-mod LocalsSpelled
-mod StatementsSpelled
+pub mod Shared
+pub mod Uses
+pub mod AttributesSpelled
+pub mod LocalsSpelled
+pub mod StatementsSpelled
+pub mod Begins
+pub mod AttributesRead
