@@ -1,6 +1,5 @@
 -- What all of the descent shares.
-use Rattle.std.proofs.Common.{Bool, true, false, ◌≡◌, ℕ, ◌+◌, List, drop, length, Option, Some, None, refl}
-use Rattle.std.specs.Prelude.{nat_le}
+use Rattle.std.proofs.Common.{Bool, true, false, ◌≡◌, ℕ, ◌+◌, List, drop, Option, Some, None, refl}
 use Rattle.slang_tree.specs.declared.places.Place.{Place}
 use Rattle.slang_tree.specs.declared.codes.ModuleCode.TheVariants as code
 use Rattle.slang_tokens.specs.declared.tokens.Mark.{Mark}
@@ -12,7 +11,7 @@ use Rattle.slang_reading.specs.Kinds.{sees, sees_word}
 use Rattle.slang_reading.proofs.Marks.{mark_is, word_is}
 use Rattle.slang_reading.proofs.Exact.{Post, PostChoice, post_fits, post_turns, post_over, post_weaken}
 use Rattle.slang_grammar.specs.Standing.{Stands}
-use Rattle.slang_grammar.specs.Descent.{Limits, if_short}
+use Rattle.slang_grammar.specs.Descent.{Limits, is_short, if_short}
 use Rattle.slang_grammar.proofs.Shared.{stands}
 use Rattle.statement_grammar.specs.AttributesDescent.{if_obeyed}
 
@@ -32,7 +31,7 @@ post_obeyed ts Q at x false p (Pass other there) h = tt
 
 -- nor does the limit of names
 pub post_short : {A : Type 0} (ts : List Lexed) (limits : Limits) (Q : A → ℕ → Type 0) (at : ℕ) (t : Lexed) (c : Choice A) → PostChoice ts Q at (Some t) c → PostChoice ts Q at (Some t) (if_short limits t c)
-post_short ts limits Q at t c h = post_fits ts Q at (Some t) (nat_le (length t.bytes) limits.names) code.TooLong c (λ f. h)
+post_short ts limits Q at t c h = post_fits ts Q at (Some t) (is_short limits t) code.TooLong c (λ f. h)
 
 -- the word that is seen
 pub word_stands : (ts : List Lexed) (at : ℕ) (x : Option Lexed) (word : Word) → first (drop at ts) ≡ x → sees_word word x ≡ true → Stands ts at (k.Word word) (place_of x)
