@@ -1,0 +1,11 @@
+use Rattle.std.proofs.Common.{◌≡◌, ◌-◌, map}
+use Rattle.form_grammar.specs.Grammar as form
+use Rattle.form_grammar.specs.Reading.{form_at, nested_at, items_at}
+use Rattle.form_grammar.proofs.Loops.{behind_these}
+use Rattle.slang_core.specs.BodyTrees.{body_tree}
+use Rattle.form_bodies.proofs.bodies.body_items.Given as goal
+
+abbrev pub invariant-loop : goal.invariant-loop
+invariant-loop l =
+    let item = form_at (nested_at l.level.depth) form.body in
+    behind_these (map body_tree l.items) (items_at item (l.count - l.counter) l.rest) ≡ items_at item l.count l.bytes
