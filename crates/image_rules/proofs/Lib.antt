@@ -1,0 +1,5 @@
+pub mod Walking
+pub mod InOrder
+pub mod InBlocks
+pub mod Defined
+pub mod Wrong
