@@ -103,6 +103,13 @@ impl<'a> Definitions<'a> {
         }
     }
 
+    /// The place of the instruction that defines an id, counted from 0.
+    pub fn place(&self, id: u32) -> Option<usize>
+        ensures { result ≡ place_of self.now id 0 }
+    {
+        self.places.get(&id).copied()
+    }
+
     /// What an id stands for.
     pub fn sort(&self, id: u32) -> Sort
         ensures { result ≡ sort self.now id }

@@ -2,7 +2,11 @@
 #![tactic(auto)]
 
 mod definitions;
+mod entry;
 mod sorts;
+mod words;
 
 pub use definitions::Definitions;
+pub use entry::entry_of;
 pub use sorts::{Sort, sort_of};
+pub use words::word_of;

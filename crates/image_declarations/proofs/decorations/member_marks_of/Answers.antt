@@ -1,0 +1,13 @@
+use Rattle.std.proofs.Common.{length, drop, ℕ, List, sym, subst}
+use Rattle.spirv_words.specs.declared.images.Instruction.{Instruction}
+use Rattle.image_declarations.specs.Decorations.{MemberMarks}
+use Rattle.image_declarations.proofs.Behind.{one_less}
+use Rattle.image_declarations.proofs.Marked.{member_marks-more}
+use Rattle.image_declarations.proofs.decorations.member_marks_of.Goals as goal
+
+pub loop-last-preserved-in_ok-insert-in-Some-member_decoration_of : goal.loop-last-preserved-in_ok-insert-in-Some-member_decoration_of
+loop-last-preserved-in_ok-insert-in-Some-member_decoration_of c =
+    let s = one_less c.args.code.now c.loop-last.left.now c.in-Some.before.now c.in-Some.last.now c.in-Some.ensures.cases.0 c.loop-last.invariant.0 in
+    let old = subst (λ (n : ℕ). MemberMarks c.loop-last.marks (drop (length c.loop-last.left.now) c.args.code.now) n) s.longer c.loop-last.invariant.1 in
+    let new = member_marks-more c.loop-last.marks c.insert.new.self c.in-Some.last.now (drop (length c.loop-last.left.now) c.args.code.now) (length c.in-Some.before.now) c.in-Some-member_decoration_of.key c.in-Some-member_decoration_of.literal old (sym c.in-Some-member_decoration_of.ensures) c.in_ok-insert-in-Some-member_decoration_of.ensures.updates.0 in
+    (s.whole, subst (λ (l : List Instruction). MemberMarks c.insert.new.self l (length c.in-Some.before.now)) (sym s.behind) new)

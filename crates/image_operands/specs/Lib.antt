@@ -1,0 +1,4 @@
+pub mod Operators
+pub mod Memory
+pub mod Composites
+pub mod Marks

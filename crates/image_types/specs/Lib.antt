@@ -1,0 +1,4 @@
+pub mod Rules
+pub mod Functions
+pub mod Parts
+pub mod Checking
