@@ -36,7 +36,8 @@ use Rattle.slang_grammar.specs.TypesDescent.{Arguments, arguments, types}
 use Rattle.slang_grammar.specs.ExpressionsDescent.{Value, Values, freed, arguments_ahead, Given, given_by, given_at, given, repeats, begins, adjacent, joined, shift_ahead, cast_to, cast_at, cast_ahead, whole, over, value_of, value, value_more, values_by, values, leaf, construct, primary_word, named, paren, member_name, member_at, index, call, chain_at, chain, chains, chain_rest, primary_at, postfix, prefix, cast_by, unary_mark, unary_at, unary, operand, greater, shift_by, operator_mark, operator_by, operator_at, operator, level, choice, choice_by, choice_rest, at_level, leveled}
 use Rattle.slang_grammar.proofs.Shared.{stands, reads_expect, not_there, is_there}
 use Rattle.slang_grammar.proofs.TypesSpelled.{post_arguments, post_types}
-use Rattle.slang_grammar.proofs.TypesRead.{reads_arguments, less_there}
+use Rattle.slang_grammar.proofs.Limited.{Turns, in_limit, short_limit, room_limit}
+use Rattle.slang_grammar.proofs.TypesRead.{ArgumentsAllowed, arguments_within, reads_arguments, less_there}
 use Rattle.expression_grammar.specs.Heights.{expr_height}
 use Rattle.expression_grammar.specs.Sizes.{Fits, ListFits}
 use Rattle.expression_grammar.specs.Ends.{goes_on}
@@ -45,7 +46,8 @@ use Rattle.expression_grammar.proofs.Sizes.{positive}
 use Rattle.expression_grammar.proofs.Fitting.{name_arguments, construct_values, paren_value, member_value, member_arguments, index_value, index_inside, call_value, call_values, unary_value, cast_value, binary_left, binary_right, choice_first, choice_second, choice_third, name_short, member_short, more_room, last_fits, last_in, chain_fits, binary_fits, more_fits}
 use Rattle.expression_grammar.proofs.Tables.{operator_other, unary_other, unary_only, level_bound}
 use Rattle.expression_grammar.proofs.Parts.{reads_repeats_end, reads_repeats_more, reads_repeats_full}
-use Rattle.expression_grammar.proofs.Ahead.{fine_post, fine_not_past, IsCastAt, fine_cast_ahead, IsShiftAt, fine_shift_ahead}
+use Rattle.slang_reading.proofs.Fine.{fine_post, fine_not_past}
+use Rattle.expression_grammar.proofs.Ahead.{fine_arguments_ahead, IsCastAt, fine_cast_ahead, IsShiftAt, fine_shift_ahead}
 use Rattle.expression_grammar.proofs.Quiet.{unary_begins, level_begins, expr_begins, begins_not, goes_in, QuietAt, ends_question, quiet_ends, ends_here, quiet_question, binary_quiet, more_ends, expr_no_cast}
 use Rattle.expression_grammar.proofs.Spelled.{post_arguments_ahead, reads_arguments_ahead, not_whole}
 
@@ -58,32 +60,12 @@ reads_excused {A = A} E p ts at seen a to r x = record { is = go (p ts at seen) 
     go (Stop seen1) h y = h
     go (Past code place seen1) h y = y tt
 
--- ---- limits that are not passed
-
-free_false : (a b : Bool) → (a || b) ≡ false → b ≡ false
-free_false true b e = cc
-free_false false b e = e
-
-in_limit : (limits : Limits) (count most : ℕ) → count < most → fits_in limits count most ≡ false → ⊥
-in_limit limits count most h e = let f = free_false limits.free (nat_lt count most) e in grind (arith, nat_tests, f, h)
-
-short_limit : (limits : Limits) (t : Lexed) → length t.bytes ≤ limits.names → is_short limits t ≡ false → ⊥
-short_limit limits t h e = let f = free_false limits.free (nat_le (length t.bytes) limits.names) e in grind (arith, nat_tests, f, h)
-
-room_limit : (d : ℕ) → 0 < d → nat_lt 0 d ≡ false → ⊥
-room_limit d h e = grind (arith, nat_tests, e, h)
-
 -- Generic arguments are read where they are spelled and keep the limits. E holds where a limit is passed.
 pub record ArgumentsRead (E : Type 0) (ts : List Lexed) (limits : Limits) : Type 0 where
-  pub reads : (args : List GenericArgument) (end : Place) (from to : ℕ) → ArgumentsAt ts args end from to → (d seen : ℕ) → ArgumentsFit limits d args ⊎ E →
+  pub reads : (args : List GenericArgument) (end : Place) (from to : ℕ) → ArgumentsAt ts args end from to → (d seen : ℕ) → ArgumentsAllowed E limits d args →
       Reads E (arguments limits true d (types limits d)) ts from seen ((args, greatest (map argument_height args)), end) to
   -- and what is looked at ahead passes no limit
   pub ahead : (from seen : ℕ) → IsPast (arguments_ahead limits ts from seen) → E
-
--- lists and nodes within the limits do not run out of turns
-pub record Turns (limits : Limits) (d : ℕ) : Type 0 where
-  pub nodes : d ≤ limits.turns
-  pub items : limits.items ≤ limits.turns
 
 module _ (E : Type 0) (ts : List Lexed) (limits : Limits) (types_read : ArgumentsRead E ts limits) where
   -- the expression is within the limits, or a limit may be passed
@@ -103,8 +85,8 @@ module _ (E : Type 0) (ts : List Lexed) (limits : Limits) (types_read : Argument
   down_list : (d : ℕ) (y : ExprTree) (xs : List ExprTree) → Allowed (suc d) y → (Fits limits (suc d) y → ListFits limits d xs) → AllowedList d xs
   down_list d y xs a f = elim a [ inl h ↦ inl (f h.0, fewer d h.1) | inr e ↦ inr e ]
 
-  down_arguments : (d : ℕ) (y : ExprTree) (args : List GenericArgument) → Allowed (suc d) y → (Fits limits (suc d) y → ArgumentsFit limits d args) → ArgumentsFit limits d args ⊎ E
-  down_arguments d y args a f = elim a [ inl h ↦ inl (f h.0) | inr e ↦ inr e ]
+  down_arguments : (d : ℕ) (y : ExprTree) (args : List GenericArgument) → Allowed (suc d) y → (Fits limits (suc d) y → ArgumentsFit limits d args) → ArgumentsAllowed E limits d args
+  down_arguments d y args a f = elim a [ inl h ↦ inl (f h.0, fewer d h.1) | inr e ↦ inr e ]
 
   across : (d : ℕ) (y x : ExprTree) → Allowed d y → (Fits limits d y → Fits limits d x) → Allowed d x
   across d y x a f = elim a [ inl h ↦ inl (f h.0, h.1) | inr e ↦ inr e ]
@@ -144,7 +126,7 @@ module _ (E : Type 0) (ts : List Lexed) (limits : Limits) (types_read : Argument
 
   -- ---- a name and what stands behind it
 
-  reads_given : (d : ℕ) (id : Identifier) (args : List GenericArgument) (end : Place) (from to : ℕ) → NameAt ts id args end from to → (seen : ℕ) → ArgumentsFit limits d args ⊎ E →
+  reads_given : (d : ℕ) (id : Identifier) (args : List GenericArgument) (end : Place) (from to : ℕ) → NameAt ts id args end from to → (seen : ℕ) → ArgumentsAllowed E limits d args →
       Reads {A = Given} E (given limits d id.place) ts (from + 1) seen (args, greatest (map argument_height args), end) to
   unfolding given
   reads_given d id args end from to (ex.alone s none) seen a = by (sees m.Less (first (drop (from + 1) ts))) refl
@@ -166,7 +148,7 @@ module _ (E : Type 0) (ts : List Lexed) (limits : Limits) (types_read : Argument
       let z : Given = (args, greatest (map argument_height args), end) in
       let all : Arguments × Place = ((args, greatest (map argument_height args)), end) in
       reads_next E ts (λ x. given_at limits d id.place (sees m.Less x)) (from + 1) seen z to (first (drop (from + 1) ts)) (given_at limits d id.place true) refl
-      (ap (given_at limits d id.place) (less_there (Unit {0}) tt limits r))
+      (ap (given_at limits d id.place) (less_there r))
       (λ seen1. reads_foresee_yes ts (arguments_ahead limits) (given_by limits d id.place) (from + 1) seen1 E all z to to
       (reads_excused E (arguments_ahead limits) ts (from + 1) seen1 all to
       (reads_arguments_ahead ts limits (Unit {0}) all (from + 1) to seen1 (reads_arguments (Unit {0}) tt (freed limits) r true limits.turns seen1) f) (types_read.ahead (from + 1) seen1))
@@ -680,4 +662,11 @@ pub any_arguments : (ts : List Lexed) (limits : Limits) → ArgumentsRead (Unit 
 any_arguments ts limits = record {
   reads = λ args end from to r d seen a. reads_arguments (Unit {0}) tt limits r true d seen;
   ahead = λ from seen p. tt;
+}
+
+-- where none may be, and there are as many turns as tokens
+pub exact_arguments : (ts : List Lexed) (limits : Limits) → length ts ≤ limits.turns → ArgumentsRead ⊥ ts limits
+exact_arguments ts limits long = record {
+  reads = λ args end from to r d seen a. arguments_within ⊥ limits r true d seen a;
+  ahead = λ from seen p. fine_not_past (λ (a : Arguments × Place) (to : ℕ). from < to) (arguments_ahead limits ts from seen) (fine_arguments_ahead ts limits long from seen) p;
 }

@@ -33,7 +33,8 @@ use Rattle.slang_grammar.specs.ExpressionsDescent.{Value, Values, freed, argumen
 use Rattle.slang_grammar.proofs.Shared.{stands, name_stands, IsMarkAt, post_expect}
 use Rattle.slang_grammar.proofs.TypesSpelled.{post_arguments, post_types}
 use Rattle.slang_grammar.proofs.TypesRead.{reads_arguments, less_there}
-use Rattle.expression_grammar.proofs.Ahead.{fine_post, IsCastAt, fine_cast_ahead, post_joined, IsShiftAt, fine_shift_ahead}
+use Rattle.slang_reading.proofs.Fine.{fine_post}
+use Rattle.expression_grammar.proofs.Ahead.{IsCastAt, fine_cast_ahead, post_joined, IsShiftAt, fine_shift_ahead}
 use Rattle.expression_grammar.proofs.Parts.{post_known, post_here, post_ahead, TurnIs, post_repeats}
 use Rattle.expression_grammar.proofs.Tables.{operator_other, unary_other, primary_other, chain_other, WordOf, true_word, false_word, this_value, this_type, other, word_of, level_bound}
 
@@ -91,7 +92,7 @@ module _ (ts : List Lexed) (limits : Limits) where
                   reads_not_stopped (Unit {0}) (arguments_ahead limits) ts (at + 1) seen1 ((args, greatest (map argument_height args)), end) to seen2
                   (reads_arguments_ahead (Unit {0}) ((args, greatest (map argument_height args)), end) (at + 1) to seen1 (reads_arguments (Unit {0}) tt (freed limits) a true limits.turns seen1) f) r;
             }))
-        by x e false q = λ seen1. ex.alone s (record { none = λ args end to a f. let l = sym (less_there (Unit {0}) tt limits a) ∙ (ap (sees m.Less) e ∙ q) in cc })
+        by x e false q = λ seen1. ex.alone s (record { none = λ args end to a f. let l = sym (less_there a) ∙ (ap (sees m.Less) e ∙ q) in cc })
 
 -- ---- expressions inside of which so many nodes may stand
 

@@ -1,7 +1,10 @@
+pub mod Limited
 pub mod Shared
 pub mod Heights
+pub mod TypesFitting
 pub mod TypesSpelled
 pub mod TypesRead
 pub mod TypesReady
 pub mod TypesWrong
 pub mod TypesTall
+pub mod TypesFree

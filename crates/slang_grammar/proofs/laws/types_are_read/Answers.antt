@@ -1,11 +1,11 @@
-use Rattle.std.proofs.Common.{◌≡◌, subst, ℕ}
+use Rattle.std.proofs.Common.{◌≡◌, subst, ℕ, inl}
 use Rattle.slang_grammar.specs.Heights.{height}
 use Rattle.slang_grammar.specs.Types.{TypeAt}
 use Rattle.slang_grammar.specs.TypesDescent.{types, Type_}
-use Rattle.slang_reading.proofs.Exact.{Post, reads_not_stopped}
+use Rattle.slang_reading.proofs.Exact.{Post, reads_done, reads_not_stopped}
 use Rattle.slang_grammar.proofs.TypesSpelled.{post_types}
 use Rattle.slang_grammar.proofs.TypesTall.{tall_types}
-use Rattle.slang_grammar.proofs.TypesRead.{reads_type}
+use Rattle.slang_grammar.proofs.TypesRead.{reads_type, type_within}
 use Rattle.slang_grammar.proofs.TypesWrong.{types_go_on}
 use Rattle.slang_grammar.proofs.laws.types_are_read.Goals as goal
 
@@ -21,3 +21,7 @@ returns-clause-not_stopped c = λ ts limits d at seen to seen1 x s q e.
 
 pub returns-clause-goes_on : goal.returns-clause-goes_on
 returns-clause-goes_on c = types_go_on
+
+pub returns-clause-answered : goal.returns-clause-answered
+returns-clause-answered c = λ ts limits d at seen to x s q f nodes items.
+    reads_done (types limits d) ts at seen (x, height x) to (type_within ⊥ limits s q d seen (inl (f, record { nodes = nodes; items = items })))
