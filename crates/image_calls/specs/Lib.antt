@@ -1,0 +1,4 @@
+pub mod Edges
+pub mod Unseen
+pub mod Arguments
+pub mod Calls

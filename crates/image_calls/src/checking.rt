@@ -1,0 +1,73 @@
+// The first call that is wrong.
+
+ghost use Rattle.std.specs.Prelude.{◌≡◌, ◌↔◌, ◌<◌, ◌^◌, ◌⊎◌, ℕ, None, true, IsTrue, IfOk, length};
+ghost use Rattle.spirv_words.specs.Words.{image_words};
+ghost use Rattle.spirv_words.specs.Runs.{entry_of};
+ghost use Rattle.image_places.specs.Places.{IsFirst};
+ghost use Rattle.image_calls.specs.Edges.{calls, callees, listed};
+ghost use Rattle.image_calls.specs.Calls.{LeadsBack, IsWrongCall, HasWrongCall, IsFirstBad, BadCall, inside_at};
+
+use crate::arguments::is_bad;
+use crate::edges::{callees, calls, edge_of, open_after};
+use crate::reach::leads;
+use image_lookup::{Definitions, entry_of, word_of};
+use image_places::places_grow;
+use spirv_words::{Image, Instruction};
+use std::alloc::{AllocError, Global};
+use std::collections::HashMap;
+
+/// Whether what is called leads back to the function that calls.
+fn leads_back(
+    alloc: Global,
+    map: &HashMap<u32, Vec<u32>>,
+    edges: &[(u32, u32)],
+    edge: Option<(u32, u32)>,
+) -> Result<bool, AllocError>
+    requires { (id : ℕ) → listed map.now id ≡ callees edges.now id }
+    ensures { IfOk result (λ back. IsTrue back ↔ LeadsBack edges.now edge) }
+{
+    match edge {
+        Some((caller, callee)) => leads(alloc, map, edges, callee, caller),
+        None => Ok(false),
+    }
+}
+
+/// The number of the first instruction that is a wrong call, counted from 0.
+fn first_wrong(
+    alloc: Global,
+    definitions: &Definitions,
+    code: &[Instruction],
+) -> Result<Option<usize>, AllocError>
+    requires { definitions.now ≡ code.now }
+    ensures { IfOk result (IsFirstBad (HasWrongCall code.now) (length code.now)) }
+{
+    let entry = entry_of(code);
+    let edges = calls(alloc, code)?;
+    let map = callees(alloc, edges.as_slice())?;
+    let mut inside = None;
+    for (number, instruction) in code.iter().enumerate() {
+        let edge = edge_of(instruction, inside);
+        if is_bad(definitions, entry, instruction)
+            || leads_back(alloc, &map, edges.as_slice(), edge)?
+        {
+            return Ok(Some(number));
+        }
+        inside = open_after(instruction, inside);
+    }
+    Ok(None)
+}
+
+/// The word at which the first instruction begins that is a wrong call, if there is one: a call with other arguments than
+/// its function has parameters, a call of the entry, or one whose function leads back to the function that calls.
+pub fn first_call_fault(alloc: Global, image: &Image) -> Result<Option<usize>, AllocError>
+    requires { length (image_words image.now) < 2 ^ 64 }
+    ensures { IfOk result (IsFirst (BadCall image.now.instructions)) }
+{
+    places_grow();
+    let code = image.instructions.as_slice();
+    let definitions = Definitions::new(alloc, code)?;
+    match first_wrong(alloc, &definitions, code)? {
+        Some(number) => Ok(Some(word_of(code, number))),
+        None => Ok(None),
+    }
+}

@@ -1,0 +1,11 @@
+//! The rules on the calls of an image: their arguments, and that no call leads back to the function that makes it.
+#![tactic(auto)]
+
+mod arguments;
+mod checking;
+mod edges;
+mod reach;
+#[cfg(test)]
+mod tests;
+
+pub use checking::first_call_fault;
