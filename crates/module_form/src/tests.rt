@@ -181,31 +181,37 @@ fn as_deep_as_allowed(rt: HostRuntime) -> Result<(), Fail> {
     Ok(())
 }
 
-/// A module that imports so many names of 255 bytes.
-fn imports(alloc: Global, count: u32) -> Result<Vec<u8>, AllocError> {
+/// A module that imports that name so many times.
+fn imports(alloc: Global, name: &[u8], count: u32) -> Result<Vec<u8>, AllocError> {
     let mut out = Vec::new(alloc);
     out.extend_from_slice(b"SLMO\x01\x00\x01e")?;
     put_num(&mut out, count)?;
     for _ in 0..count {
-        put_num(&mut out, 255)?;
-        out.extend_from_slice(&[97; 255])?;
+        put_num(&mut out, name.len() as u32)?;
+        out.extend_from_slice(name)?;
     }
     out.extend_from_slice(b"\x00\x00")?;
     Ok(out)
 }
 
 #[test]
-fn as_long_as_allowed(rt: HostRuntime) -> Result<(), Fail> {
+fn as_many_items_as_allowed(rt: HostRuntime) -> Result<(), Fail> {
     let alloc = rt.alloc();
-    assert_eq!(rt; refusal(alloc, imports(alloc, 60_000)?.as_slice())?, (0, 0));
-    assert_eq!(rt;
-        refusal(alloc, imports(alloc, 65_536)?.as_slice())?,
-        (307, 16_777_216)
-    );
-    assert_eq!(rt;
-        refusal(alloc, imports(alloc, 65_537)?.as_slice())?,
-        (307, 10)
-    );
+    let most = imports(alloc, b"a", 65_536)?;
+    assert_eq!(rt; refusal(alloc, most.as_slice())?, (0, 0));
+    let more = imports(alloc, b"a", 65_537)?;
+    assert_eq!(rt; refusal(alloc, more.as_slice())?, (307, 10));
+    Ok(())
+}
+
+/// Names of 255 bytes, with which the limit of bytes comes before that of items.
+#[test]
+fn as_many_bytes_as_allowed(rt: HostRuntime) -> Result<(), Fail> {
+    let alloc = rt.alloc();
+    let short = imports(alloc, &[97; 255], 60_000)?;
+    assert_eq!(rt; refusal(alloc, short.as_slice())?, (0, 0));
+    let long = imports(alloc, &[97; 255], 65_536)?;
+    assert_eq!(rt; refusal(alloc, long.as_slice())?, (307, 16_777_216));
     Ok(())
 }
 
