@@ -1,0 +1,4 @@
+pub mod PartsSpelled
+pub mod Uses
+pub mod MembersSpelled
+pub mod FilesSpelled

@@ -1,6 +1,6 @@
 -- Declarations and whole files: which tokens spell which. The place of a declaration is without its attributes and its
 -- access word; that of a requirement begins with its attributes.
-use Rattle.std.specs.Prelude.{◌≡◌, ℕ, ◌+◌, Bool, true, false, List, [], ◌∷◌, ◌++◌, length, Option, Some, None}
+use Rattle.std.specs.Prelude.{◌≡◌, ℕ, ◌+◌, Bool, true, false, List, [], ◌∷◌, ◌++◌, drop, Option, Some, None}
 use Rattle.slang_tree.specs.declared.places.Place.{Place}
 use Rattle.slang_tree.specs.declared.places.Access.{Access}
 use Rattle.slang_tree.specs.declared.places.Access.TheVariants as access
@@ -41,6 +41,7 @@ use Rattle.slang_tokens.specs.declared.tokens.Mark.TheVariants as m
 use Rattle.slang_tokens.specs.declared.tokens.Word.{Word}
 use Rattle.slang_tokens.specs.declared.tokens.Word.TheVariants as w
 use Rattle.slang_reading.specs.Lexed.{Lexed}
+use Rattle.slang_reading.specs.Reading.{first}
 use Rattle.slang_reading.specs.Kinds.{span}
 use Rattle.slang_grammar.specs.Standing.{Stands, NameStands, IsNot}
 use Rattle.slang_grammar.specs.Types.{TypeAt}
@@ -228,9 +229,9 @@ is_private _ = false
 abbrev pub item_of : List Attribute → Option Access → ItemNode → Item
 item_of attributes access x = record { attributes = attributes; access = access; node = x }
 
--- the items so far go on to be that list, up to the end
+-- the items so far go on to be that list, up to where no token stands
 pub data ItemsAt (ts : List Lexed) : List Item → List Item → ℕ → Type 0 where
-  end : {at : ℕ} {list : List Item} → at ≡ length ts → ItemsAt ts list list at
+  end : {at : ℕ} {list : List Item} → first (drop at ts) ≡ None → ItemsAt ts list list at
   more : {from mid next at : ℕ} {attributes : List Attribute} {access : Option Access} {x : ItemNode} {list all : List Item} → AttributesAt ts [] attributes from mid →
       AccessAt ts access mid next → is_private access ≡ false → ItemNodeAt ts x next at → ItemsAt ts (list ++ item_of attributes access x ∷ []) all at → ItemsAt ts list all from
 
