@@ -9,7 +9,7 @@ use Rattle.slang_tokens.specs.declared.tokens.Mark.{Mark}
 use Rattle.slang_tokens.specs.declared.tokens.Mark.TheVariants as m
 use Rattle.slang_tokens.specs.declared.tokens.Word.{Word}
 use Rattle.slang_reading.specs.Lexed.{Lexed}
-use Rattle.slang_reading.specs.Reading.{pure, first, next, Choice, Leave, Take, Refuse, ◌>>=◌}
+use Rattle.slang_reading.specs.Reading.{pure, first, Choice, Leave, Take, Refuse}
 use Rattle.slang_reading.specs.Kinds.{is_mark}
 use Rattle.slang_reading.proofs.Marks.{mark_is}
 use Rattle.slang_reading.proofs.Fine.{Fine, fine_bind, FineChoice, fine_next}

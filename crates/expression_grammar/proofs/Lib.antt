@@ -11,3 +11,4 @@ pub mod Read
 pub mod Completing
 pub mod Ready
 pub mod Wrong
+pub mod One

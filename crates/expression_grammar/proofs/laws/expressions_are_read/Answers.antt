@@ -7,6 +7,7 @@ use Rattle.expression_grammar.proofs.Spelled.{post_leveled}
 use Rattle.expression_grammar.proofs.Tall.{tall_leveled}
 use Rattle.expression_grammar.proofs.Read.{any_arguments, exact_arguments, reads_expr}
 use Rattle.expression_grammar.proofs.Wrong.{expressions_go_on}
+use Rattle.expression_grammar.proofs.One.{one_expression}
 use Rattle.expression_grammar.proofs.laws.expressions_are_read.Goals as goal
 
 pub returns-clause-spelled : goal.returns-clause-spelled
@@ -25,3 +26,6 @@ returns-clause-goes_on c = expressions_go_on
 pub returns-clause-answered : goal.returns-clause-answered
 returns-clause-answered c = λ ts limits d at seen to x s q f long nodes items.
     reads_done (expressions limits d) ts at seen (x, expr_height x) to (reads_expr ⊥ ts limits (exact_arguments ts limits long) s q d seen (inl (f, record { nodes = nodes; items = items })))
+
+pub returns-clause-one_tree : goal.returns-clause-one_tree
+returns-clause-one_tree c = one_expression
