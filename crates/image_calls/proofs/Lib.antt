@@ -5,3 +5,4 @@ pub mod Turns
 pub mod Lengths
 pub mod Callers
 pub mod Firsts
+pub mod Descents

@@ -54,3 +54,11 @@ is_walk edges from (next ∷ rest) to = calls_it edges from next && is_walk edge
 -- one function leads to another by some calls, or by none to itself
 abbrev pub Leads : List (ℕ × ℕ) → ℕ → ℕ → Type 0
 Leads edges from to = (over : List ℕ) × (is_walk edges from over to ≡ true)
+
+abbrev pub rank_in : Option ℕ → ℕ
+rank_in None = 18446744073709551615
+rank_in (Some n) = n
+
+-- the number of a function; all that have none stand above those that have one
+abbrev pub rank : {S : Type 0} → HashMap ℕ ℕ S → ℕ → ℕ
+rank ranks id = rank_in (get nat_eq ranks id)

@@ -1,14 +1,15 @@
 // The first call that is wrong.
 
-ghost use Rattle.std.specs.Prelude.{◌≡◌, ◌↔◌, ◌<◌, ◌^◌, ◌⊎◌, ℕ, None, true, IsTrue, IfOk, length};
+ghost use Rattle.std.specs.Prelude.{◌≡◌, ◌↔◌, ◌<◌, ◌≤◌, ◌^◌, ◌⊎◌, ℕ, None, true, IsTrue, IfOk, length};
 ghost use Rattle.spirv_words.specs.Words.{image_words};
 ghost use Rattle.spirv_words.specs.Runs.{entry_of};
 ghost use Rattle.image_places.specs.Places.{IsFirst};
-ghost use Rattle.image_calls.specs.Edges.{calls, callees, listed};
+ghost use Rattle.image_calls.specs.Edges.{calls, callees, calls_it, listed, rank};
 ghost use Rattle.image_calls.specs.Calls.{LeadsBack, IsWrongCall, HasWrongCall, IsFirstBad, BadCall, inside_at};
 
 use crate::arguments::is_bad;
 use crate::edges::{callees, calls, edge_of, open_after};
+use crate::ranks::{descend, rank_of, ranks};
 use crate::reach::leads;
 use image_lookup::{Definitions, entry_of, word_of};
 use image_places::places_grow;
@@ -16,19 +17,39 @@ use spirv_words::{Image, Instruction};
 use std::alloc::{AllocError, Global};
 use std::collections::HashMap;
 
-/// Whether what is called leads back to the function that calls.
+/// Whether what is called leads back to the function that calls. It does not where numbers descend over all calls, and over
+/// this one truly; only else a search is made.
 fn leads_back(
     alloc: Global,
     map: &HashMap<u32, Vec<u32>>,
     edges: &[(u32, u32)],
+    ranks: &HashMap<u32, usize>,
     edge: Option<(u32, u32)>,
 ) -> Result<bool, AllocError>
-    requires { (id : ℕ) → listed map.now id ≡ callees edges.now id }
+    requires listed { (id : ℕ) → listed map.now id ≡ callees edges.now id }
+    requires ranked { (from to : ℕ) → calls_it edges.now from to ≡ true → rank ranks.now to ≤ rank ranks.now from }
     ensures { IfOk result (λ back. IsTrue back ↔ LeadsBack edges.now edge) }
 {
     match edge {
-        Some((caller, callee)) => leads(alloc, map, edges, callee, caller),
+        Some((caller, callee)) => {
+            if rank_of(ranks, callee) < rank_of(ranks, caller) {
+                return Ok(false);
+            }
+            leads(alloc, map, edges, callee, caller)
+        }
         None => Ok(false),
+    }
+}
+
+/// Numbers of functions that descend over all calls.
+fn descending(alloc: Global, edges: &[(u32, u32)]) -> Result<HashMap<u32, usize>, AllocError>
+    ensures { IfOk result (λ ranks. (from to : ℕ) → calls_it edges.now from to ≡ true → rank ranks to ≤ rank ranks from) }
+{
+    let found = ranks(alloc, edges)?;
+    if descend(&found, edges) {
+        Ok(found)
+    } else {
+        Ok(HashMap::new(alloc))
     }
 }
 
@@ -44,11 +65,12 @@ fn first_wrong(
     let entry = entry_of(code);
     let edges = calls(alloc, code)?;
     let map = callees(alloc, edges.as_slice())?;
+    let ranks = descending(alloc, edges.as_slice())?;
     let mut inside = None;
     for (number, instruction) in code.iter().enumerate() {
         let edge = edge_of(instruction, inside);
         if is_bad(definitions, entry, instruction)
-            || leads_back(alloc, &map, edges.as_slice(), edge)?
+            || leads_back(alloc, &map, edges.as_slice(), &ranks, edge)?
         {
             return Ok(Some(number));
         }

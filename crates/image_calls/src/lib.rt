@@ -4,6 +4,7 @@
 mod arguments;
 mod checking;
 mod edges;
+mod ranks;
 mod reach;
 #[cfg(test)]
 mod tests;

@@ -9,7 +9,7 @@ ghost use Rattle.image_calls.specs.Unseen.{unseen};
 use std::alloc::{AllocError, Global};
 use std::collections::{HashMap, HashSet};
 
-fn callees_of(map: &HashMap<u32, Vec<u32>>, id: u32) -> &[u32]
+pub fn callees_of(map: &HashMap<u32, Vec<u32>>, id: u32) -> &[u32]
     ensures { result.now ≡ listed map.now id }
 {
     match map.get(&id) {
