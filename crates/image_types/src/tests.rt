@@ -35,7 +35,7 @@ struct Case {
     place: usize,
 }
 
-const CASES: [Case; 28] = [
+const CASES: [Case; 38] = [
     // the entry is a type
     Case {
         at: 12,
@@ -236,6 +236,110 @@ const CASES: [Case; 28] = [
         new: &[0x1d],
         place: 51,
     },
+    // a stride below the end of an element
+    Case {
+        at: 107,
+        rest: 108,
+        new: &[9],
+        place: 31,
+    },
+    // two buffers with one set and binding
+    Case {
+        at: 51,
+        rest: 51,
+        new: &[
+            0x4003b, 0x20, 0x40, 0xc, 0x40047, 0x40, 0x22, 0, 0x40047, 0x40, 0x21, 0,
+        ],
+        place: 59,
+    },
+    // SLessThan on uints
+    Case {
+        at: 249,
+        rest: 251,
+        new: &[0x500b1, 2],
+        place: 249,
+    },
+    // a wrapper is loaded
+    Case {
+        at: 225,
+        rest: 228,
+        new: &[0x10, 0x30, 0x2b],
+        place: 224,
+    },
+    // Store to the input
+    Case {
+        at: 229,
+        rest: 230,
+        new: &[0x2c],
+        place: 228,
+    },
+    // two BuiltIns
+    Case {
+        at: 55,
+        rest: 55,
+        new: &[0x40047, 0x2c, 0xb, 0x1c],
+        place: 55,
+    },
+    // the mode of another function
+    Case {
+        at: 18,
+        rest: 19,
+        new: &[0x2e],
+        place: 17,
+    },
+    // null of a wrapper
+    Case {
+        at: 179,
+        rest: 180,
+        new: &[0x10],
+        place: 178,
+    },
+    // an offset of 2
+    Case {
+        at: 42,
+        rest: 43,
+        new: &[2],
+        place: 38,
+    },
+    // the entry has a parameter
+    Case {
+        at: 218,
+        rest: 218,
+        new: &[0x30037, 4, 0x41],
+        place: 10,
+    },
+];
+
+/// Words that change nothing about the types.
+const FREE: [Case; 4] = [
+    // a null as the number of a member
+    Case {
+        at: 258,
+        rest: 259,
+        new: &[0x24],
+        place: 0,
+    },
+    // a binding of the input
+    Case {
+        at: 55,
+        rest: 55,
+        new: &[0x40047, 0x2c, 0x21, 7],
+        place: 0,
+    },
+    // a pointer to void
+    Case {
+        at: 118,
+        rest: 119,
+        new: &[1],
+        place: 0,
+    },
+    // a second type of uints
+    Case {
+        at: 67,
+        rest: 67,
+        new: &[0x40015, 0x42, 0x20, 0],
+        place: 0,
+    },
 ];
 
 fn with_case(alloc: Global, case: &Case) -> Result<Vec<u32>, Fail> {
@@ -262,6 +366,16 @@ fn wrong_types_are_found(rt: HostRuntime) -> Result<(), Fail> {
         let words = with_case(rt.alloc(), case)?;
         let place = fault_of(rt.alloc(), words.as_slice())?;
         assert_eq!(rt; place, Some(case.place), "at {}", case.at);
+    }
+    Ok(())
+}
+
+#[test]
+fn other_words_fit(rt: HostRuntime) -> Result<(), Fail> {
+    for case in &FREE {
+        let words = with_case(rt.alloc(), case)?;
+        let place = fault_of(rt.alloc(), words.as_slice())?;
+        assert_eq!(rt; place, None, "at {}", case.at);
     }
     Ok(())
 }
