@@ -1,0 +1,3 @@
+pub mod Once
+pub mod Names
+pub mod Begins

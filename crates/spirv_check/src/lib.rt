@@ -1,0 +1,14 @@
+//! Whether an image keeps all rules of this profile, and what it says of its entry.
+#![tactic(auto)]
+
+mod check;
+mod entry;
+mod faults;
+mod laws;
+#[cfg(test)]
+mod tests;
+mod valid;
+
+pub use check::check_image;
+pub use laws::{a_valid_image_begins_with_its_entry, entry_name_is_read};
+pub use valid::ValidImage;
