@@ -6,3 +6,4 @@ pub mod LocalsSpelled
 pub mod StatementsSpelled
 pub mod Begins
 pub mod AttributesRead
+pub mod LocalsRead
