@@ -30,7 +30,7 @@ fn put_local(out: &mut Vec<u8>, local: u32, value: &Expr) -> Result<(), AllocErr
     Ok(())
 }
 
-/// Appends a place and a value behind a tag.
+/// Appends a place, and the value that is stored there.
 #[tactic(auto, using(std::proofs::lemmas::List::append_assoc))]
 fn put_stored(out: &mut Vec<u8>, place: &PlaceTerm, value: &Expr) -> Result<(), AllocError>
     ensures { OnOk result (out.new.items ≡ out.old.items ++ spelling (nested (place_tree place.now) ▸ nested (expr_tree value.now))) }

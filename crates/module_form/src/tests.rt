@@ -181,14 +181,17 @@ fn as_deep_as_allowed(rt: HostRuntime) -> Result<(), Fail> {
     Ok(())
 }
 
-/// A module that imports that name so many times.
-fn imports(alloc: Global, name: &[u8], count: u32) -> Result<Vec<u8>, AllocError> {
+/// The longest name.
+static LETTERS: [u8; 255] = [97; 255];
+
+/// A module that imports a name of so many letters so many times.
+fn imports(alloc: Global, length: u8, count: u32) -> Result<Vec<u8>, AllocError> {
     let mut out = Vec::new(alloc);
     out.extend_from_slice(b"SLMO\x01\x00\x01e")?;
     put_num(&mut out, count)?;
     for _ in 0..count {
-        put_num(&mut out, name.len() as u32)?;
-        out.extend_from_slice(name)?;
+        put_num(&mut out, u32::from(length))?;
+        out.extend_from_slice(&LETTERS[..usize::from(length)])?;
     }
     out.extend_from_slice(b"\x00\x00")?;
     Ok(out)
@@ -197,9 +200,9 @@ fn imports(alloc: Global, name: &[u8], count: u32) -> Result<Vec<u8>, AllocError
 #[test]
 fn as_many_items_as_allowed(rt: HostRuntime) -> Result<(), Fail> {
     let alloc = rt.alloc();
-    let most = imports(alloc, b"a", 65_536)?;
+    let most = imports(alloc, 1, 65_536)?;
     assert_eq!(rt; refusal(alloc, most.as_slice())?, (0, 0));
-    let more = imports(alloc, b"a", 65_537)?;
+    let more = imports(alloc, 1, 65_537)?;
     assert_eq!(rt; refusal(alloc, more.as_slice())?, (307, 10));
     Ok(())
 }
@@ -208,9 +211,9 @@ fn as_many_items_as_allowed(rt: HostRuntime) -> Result<(), Fail> {
 #[test]
 fn as_many_bytes_as_allowed(rt: HostRuntime) -> Result<(), Fail> {
     let alloc = rt.alloc();
-    let short = imports(alloc, &[97; 255], 60_000)?;
+    let short = imports(alloc, 255, 60_000)?;
     assert_eq!(rt; refusal(alloc, short.as_slice())?, (0, 0));
-    let long = imports(alloc, &[97; 255], 65_536)?;
+    let long = imports(alloc, 255, 65_536)?;
     assert_eq!(rt; refusal(alloc, long.as_slice())?, (307, 16_777_216));
     Ok(())
 }

@@ -2,7 +2,6 @@ use Rattle.std.proofs.Common.{arith, rules, append_assoc}
 use Rattle.form_grammar.specs.Trees.{nested}
 use Rattle.form_grammar.proofs.Chains.{wrote, all_written, to_write}
 use Rattle.slang_core.specs.BodyTrees.{stat_tree}
-use Rattle.slang_core.specs.declared.bodies.Stat.{the_lemmas}
 use Rattle.form_bodies.proofs.Blocks.{block_tree}
 use Rattle.form_bodies.proofs.writing.+put_stat.Goals as goal
 
