@@ -6,5 +6,6 @@ pub mod TypesSpelled
 pub mod TypesRead
 pub mod TypesReady
 pub mod TypesWrong
+pub mod TypesOne
 pub mod TypesTall
 pub mod TypesFree

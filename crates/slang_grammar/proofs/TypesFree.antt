@@ -1,5 +1,5 @@
 -- Types: what is read without limits of lists, names and chains passes none where as many nodes and turns are left as tokens.
-use Rattle.std.proofs.Common.{Bool, true, false, ◌≡◌, ℕ, zero, suc, ◌+◌, ◌<◌, ◌≤◌, max, List, [], ◌∷◌, ◌++◌, drop, length, Option, Some, None, refl, ap, arith, ◌||◌, if◌then◌else◌}
+use Rattle.std.proofs.Common.{Bool, true, false, ◌≡◌, ℕ, zero, suc, ◌+◌, ◌<◌, ◌≤◌, List, [], ◌∷◌, drop, length, Option, Some, None, refl, ap, arith, ◌||◌}
 use Rattle.std.specs.Prelude.{nat_le, nat_lt}
 use Rattle.std.proofs.lemmas.Bool.Decides.{nat_tests}
 use Rattle.slang_tree.specs.declared.places.Place.{Place}
@@ -11,13 +11,13 @@ use Rattle.slang_tokens.specs.declared.tokens.Kind.{Kind}
 use Rattle.slang_tokens.specs.declared.tokens.Kind.TheVariants as k
 use Rattle.slang_tokens.specs.declared.tokens.Mark.TheVariants as m
 use Rattle.slang_reading.specs.Lexed.{Lexed}
-use Rattle.slang_reading.specs.Reading.{Parser, Choice, Leave, Take, Refuse, first, pure, turns, ◌>>=◌}
-use Rattle.slang_reading.specs.Kinds.{sees, span}
+use Rattle.slang_reading.specs.Reading.{Parser, Leave, Take, first, pure, turns}
+use Rattle.slang_reading.specs.Kinds.{sees}
 use Rattle.slang_reading.proofs.Tame.{within}
 use Rattle.slang_reading.proofs.Fine.{Fine, fine_weaken, fine_bind, FineChoice, fine_next, fine_fits, fine_turns}
 use Rattle.slang_grammar.specs.Types.{typed}
 use Rattle.slang_grammar.specs.Descent.{Limits, fits_in, expect, is_short, named_by, named, name, identifier, termed_by, termed, bracketed}
-use Rattle.slang_grammar.specs.TypesDescent.{Type_, Argument, Arguments, WordUse, IsBuiltin, IsResource, IsThis, IsOther, use_of, type_argument, begins_type, word_argument, argument_by, argument_of, argument, argument_more, arguments, name_rest_by, name_rest, resource_rest, node, type_word, type_by, type_of, type_name, project_rest, project_by, project, length_rest, length_by, array, type_rest, no_types, types}
+use Rattle.slang_grammar.specs.TypesDescent.{Type_, Arguments, WordUse, IsBuiltin, IsResource, IsThis, IsOther, use_of, type_argument, begins_type, word_argument, argument_by, argument_of, argument, argument_more, arguments, name_rest_by, name_rest, resource_rest, node, type_word, type_by, type_of, type_name, project_rest, project_by, project, length_rest, length_by, array, type_rest, no_types, types}
 use Rattle.slang_grammar.proofs.Shared.{IsMarkAt, fine_expect}
 
 module _ (ts : List Lexed) (limits : Limits) (free : limits.free ≡ true) where

@@ -7,6 +7,7 @@ use Rattle.slang_grammar.proofs.TypesSpelled.{post_types}
 use Rattle.slang_grammar.proofs.TypesTall.{tall_types}
 use Rattle.slang_grammar.proofs.TypesRead.{reads_type, type_within}
 use Rattle.slang_grammar.proofs.TypesWrong.{types_go_on}
+use Rattle.slang_grammar.proofs.TypesOne.{one_type}
 use Rattle.slang_grammar.proofs.laws.types_are_read.Goals as goal
 
 pub returns-clause-spelled : goal.returns-clause-spelled
@@ -25,3 +26,6 @@ returns-clause-goes_on c = types_go_on
 pub returns-clause-answered : goal.returns-clause-answered
 returns-clause-answered c = λ ts limits d at seen to x s q f nodes items.
     reads_done (types limits d) ts at seen (x, height x) to (type_within ⊥ limits s q d seen (inl (f, record { nodes = nodes; items = items })))
+
+pub returns-clause-one_tree : goal.returns-clause-one_tree
+returns-clause-one_tree c = one_type
