@@ -1,0 +1,4 @@
+pub mod Acts
+pub mod Follows
+pub mod InBuffers
+pub mod Calls
