@@ -1,7 +1,8 @@
 -- Words by position and index.
-use Rattle.std.proofs.Common.{◌≡◌, ℕ, zero, suc, ◌+◌, ◌<◌, ◌≤◌, ◌^◌, true, false, IsTrue, IsSome, List, [], ◌∷◌, length, get_or, set, refl, sym, ap, ◌∙◌, arith}
+use Rattle.std.proofs.Common.{◌≡◌, ℕ, zero, suc, ◌+◌, ◌<◌, ◌≤◌, ◌^◌, true, false, Some, ◌⊎◌, inl, inr, subst, IsTrue, IsSome, List, [], ◌∷◌, length, get_or, set, refl, sym, ap, ◌∙◌, arith}
 use Rattle.std.specs.Prelude.{slice_get, ◌↔◌}
 use Rattle.std.specs.List.{AllByRecursion}
+use Rattle.std.proofs.lemmas.Bool.{cases_eq}
 use Rattle.std.proofs.lemmas.List.{length-set, set_past}
 use Rattle.run_buffers.specs.declared.buffer.Buffer.{Buffer}
 use Rattle.run_buffers.specs.Texts.{IsWord, IsNarrow, IsAscending, words_in, Fits}
@@ -98,3 +99,39 @@ same_counts (x ∷ xs) zero i w zero = length-set x.words i w
 same_counts (x ∷ xs) zero i w (suc q) = refl
 same_counts (x ∷ xs) (suc p) i w zero = refl
 same_counts (x ∷ xs) (suc p) i w (suc q) = same_counts xs p i w q
+
+set_there : (ws : List ℕ) (i w : ℕ) → IsSome (slice_get ws i) → slice_get (set ws i w) i ≡ Some w
+set_there [] i w some = absurd cc
+set_there (x ∷ xs) zero w some = refl
+set_there (x ∷ xs) (suc i) w some = set_there xs i w some
+
+set_elsewhere : (ws : List ℕ) (i w j : ℕ) → (j ≡ i → ⊥) → slice_get (set ws i w) j ≡ slice_get ws j
+set_elsewhere [] i w j ne = refl
+set_elsewhere (x ∷ xs) zero w zero ne = absurd (ne refl)
+set_elsewhere (x ∷ xs) zero w (suc j) ne = refl
+set_elsewhere (x ∷ xs) (suc i) w zero ne = refl
+set_elsewhere (x ∷ xs) (suc i) w (suc j) ne = set_elsewhere xs i w j (λ e. ne (ap (λ (n : ℕ). suc n) e))
+
+pub word_there : (bs : List Buffer) (p i w : ℕ) → IsSome (word_at bs p i) → word_at (with_word bs p i w) p i ≡ Some w
+word_there [] p i w some = absurd cc
+word_there (x ∷ xs) zero i w some = set_there x.words i w some
+word_there (x ∷ xs) (suc p) i w some = word_there xs p i w some
+
+same_word : (bs : List Buffer) (p i w j : ℕ) → (j ≡ i → ⊥) → word_at (with_word bs p i w) p j ≡ word_at bs p j
+same_word [] p i w j ne = refl
+same_word (x ∷ xs) zero i w j ne = set_elsewhere x.words i w j ne
+same_word (x ∷ xs) (suc p) i w j ne = same_word xs p i w j ne
+
+other_buffer : (bs : List Buffer) (p i w q j : ℕ) → (q ≡ p → ⊥) → word_at (with_word bs p i w) q j ≡ word_at bs q j
+other_buffer [] p i w q j ne = refl
+other_buffer (x ∷ xs) zero i w zero j ne = absurd (ne refl)
+other_buffer (x ∷ xs) zero i w (suc q) j ne = refl
+other_buffer (x ∷ xs) (suc p) i w zero j ne = refl
+other_buffer (x ∷ xs) (suc p) i w (suc q) j ne = other_buffer xs p i w q j (λ e. ne (ap (λ (n : ℕ). suc n) e))
+
+pub word_elsewhere : (bs : List Buffer) (p i w q j : ℕ) → (q ≡ p → ⊥) ⊎ (j ≡ i → ⊥) → word_at (with_word bs p i w) q j ≡ word_at bs q j
+word_elsewhere bs p i w q j (inl ne) = other_buffer bs p i w q j ne
+word_elsewhere bs p i w q j (inr ne) = elim (cases_eq q p) [
+  | inl same ↦ subst (λ (k : ℕ). word_at (with_word bs p i w) k j ≡ word_at bs k j) (sym same) (same_word bs p i w j ne)
+  | inr other ↦ other_buffer bs p i w q j other
+]

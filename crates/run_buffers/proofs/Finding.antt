@@ -1,11 +1,11 @@
 -- A buffer is found where those before it end.
-use Rattle.std.proofs.Common.{◌≡◌, ℕ, zero, suc, ◌<◌, ◌⊎◌, true, false, ltb, eqb, Some, List, [], ◌∷◌, length, get_or, sym, ap, subst, ◌∙◌, ◌&&◌, inl, inr, arith}
-use Rattle.std.specs.Prelude.{slice_get}
+use Rattle.std.proofs.Common.{◌≡◌, ℕ, zero, suc, ◌<◌, ◌⊎◌, Bool, true, false, cond, ltb, eqb, Option, Some, None, refl, List, [], ◌∷◌, length, get_or, sym, ap, subst, ◌∙◌, ◌&&◌, inl, inr, arith}
+use Rattle.std.specs.Prelude.{slice_get, IfSome, MatchOption}
 use Rattle.std.specs.List.Sorted.{IsPartitionPoint, IsPartitionedBy}
-use Rattle.std.proofs.lemmas.Bool.{cases_lt, or_cases, or_left, or_right, and_parts, and_from, ltb-true, lt-ltb, eqb-true, eq-eqb}
+use Rattle.std.proofs.lemmas.Bool.{cases_lt, cases_eq, ne_eqb, or_cases, or_left, or_right, and_parts, and_from, ltb-true, lt-ltb, eqb-true, eq-eqb}
 use Rattle.run_buffers.specs.declared.buffer.Buffer.{Buffer}
 use Rattle.run_buffers.specs.Texts.{IsBefore, IsAscending}
-use Rattle.run_buffers.specs.Memory.{slots, is_before}
+use Rattle.run_buffers.specs.Memory.{slots, words_at, words_of, is_before}
 
 abbrev Comes : ℕ → ℕ → Buffer → Type 0
 Comes set binding b = (b.set < set) ⊎ ((b.set ≡ set) × (b.binding < binding))
@@ -72,3 +72,43 @@ found_at set binding bs p q d h point e =
         | inr same ↦ omega arith
       ]
     ]
+
+-- ---- the words of a set and a binding are those at the position of the buffer that has them
+
+is_slot : (set binding : ℕ) (b : Buffer) (bs : List Buffer) → b.set ≡ set → b.binding ≡ binding → words_of (b ∷ bs) set binding ≡ b.words
+is_slot set binding b bs s g = ap (λ (t : Bool). cond t b.words (words_of bs set binding)) (and_from (eqb b.set set) (eqb b.binding binding) (eq-eqb b.set set s) (eq-eqb b.binding binding g))
+
+is_no_slot : (set binding : ℕ) (b : Buffer) (bs : List Buffer) → ((b.set ≡ set) × (b.binding ≡ binding) → ⊥) → words_of (b ∷ bs) set binding ≡ words_of bs set binding
+is_no_slot set binding b bs none = elim (cases_eq b.set set) [
+  | inl s ↦ elim (cases_eq b.binding binding) [
+    | inl g ↦ absurd (none (s, g))
+    | inr other ↦ ap (λ (t : Bool). cond t b.words (words_of bs set binding)) (ap (λ (u : Bool). u && eqb b.binding binding) (eq-eqb b.set set s) ∙ ne_eqb b.binding binding other)
+  ]
+  | inr other ↦ ap (λ (t : Bool). cond t b.words (words_of bs set binding)) (ap (λ (u : Bool). u && eqb b.binding binding) (ne_eqb b.set set other))
+]
+
+not_both : (a b : Buffer) (set binding : ℕ) → IsBefore a b → b.set ≡ set → b.binding ≡ binding → (a.set ≡ set) × (a.binding ≡ binding) → ⊥
+not_both a b set binding (inl less) s g same = let e = same.0 in omega arith
+not_both a b set binding (inr less) s g same = let e = same.1 in let l = less.1 in omega arith
+
+pub words_of_slot : (bs : List Buffer) (p set binding : ℕ) → IsAscending bs → slice_get (slots bs) p ≡ Some (set, binding) → words_of bs set binding ≡ words_at bs p
+words_of_slot [] p set binding h e = absurd cc
+words_of_slot (b ∷ bs) zero set binding h e =
+    let s = same_pair (b.set, b.binding) (set, binding) e in
+    is_slot set binding b bs (ap (λ (x : ℕ × ℕ). x.0) s) (ap (λ (x : ℕ × ℕ). x.1) s)
+words_of_slot (b ∷ bs) (suc p) set binding h e =
+    let s = slot_within bs p set binding b e in
+    let before = first_before b bs p b h s.0 in
+    is_no_slot set binding b bs (not_both b (get_or bs p b) set binding before s.1 s.2) ∙ words_of_slot bs p set binding (rest_ascends b bs h) e
+
+pub no_words_of : (bs : List Buffer) (set binding : ℕ) → ((p : ℕ) → slice_get (slots bs) p ≡ Some (set, binding) → ⊥) → words_of bs set binding ≡ []
+no_words_of [] set binding none = refl
+no_words_of (b ∷ bs) set binding none =
+    is_no_slot set binding b bs (λ same. none 0 (ap (λ (x : ℕ × ℕ). Some x) (ap (λ (v : ℕ). (v, b.binding)) same.0 ∙ ap (λ (v : ℕ). (set, v)) same.1)))
+    ∙ no_words_of bs set binding (λ p e. none (suc p) e)
+
+pub words_found : (bs : List Buffer) (r : Option ℕ) (set binding : ℕ) → IsAscending bs → IfSome r (λ p. slice_get (slots bs) p ≡ Some (set, binding))
+    → ((p : ℕ) → slice_get (slots bs) p ≡ Some (set, binding) → r ≡ Some p)
+    → MatchOption r (words_of bs set binding ≡ []) (λ p. words_of bs set binding ≡ words_at bs p)
+words_found bs None set binding h found first = no_words_of bs set binding (λ p e. let clash = first p e in cc)
+words_found bs (Some p) set binding h found first = words_of_slot bs p set binding h found

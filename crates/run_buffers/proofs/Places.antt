@@ -1,8 +1,9 @@
 -- Places and their numbers.
-use Rattle.std.proofs.Common.{◌≡◌, ℕ, zero, suc, ◌+◌, ◌*◌, ◌/◌, ◌%◌, ◌<◌, ◌≤◌, List, slice_index, ap, ◌∙◌, inl, inr, arith}
+use Rattle.std.proofs.Common.{◌≡◌, ℕ, zero, suc, ◌+◌, ◌*◌, ◌/◌, ◌%◌, ◌<◌, ◌≤◌, List, [], ◌∷◌, slice_index, refl, sym, ap, ◌∙◌, inl, inr, arith}
 use Rattle.std.proofs.lemmas.Bool.{cases_lt}
-use Rattle.std.proofs.Math.Nat.{mul-le-mul_left, mul-le-mul_right, mul-le-mul, mul_comm}
-use Rattle.run_buffers.specs.Invocations.{volume, place}
+use Rattle.std.proofs.Math.Nat.{mul-le-mul_left, mul-le-mul_right, mul-le-mul, mul_comm, mul-add-mod_self_right, mod-eq_of_lt}
+use Rattle.std.proofs.lemmas.Nat.{div-mul-add}
+use Rattle.run_buffers.specs.Invocations.{volume, place, number_of, IsPlace, Parts}
 
 -- a product that is not 0 has no factor that is 0
 factor : (x y : ℕ) → 0 < x * y → 0 < x
@@ -107,3 +108,78 @@ pub number_again : (n x y : ℕ) → 0 < x → 0 < y → n % x + x * (n / x % y 
 number_again n x y hx hy =
     let inner : n / x % y + y * (n / x / y) ≡ n / x = omega arith in
     ap (λ (k : ℕ). n % x + x * k) inner ∙ (let o : n % x + x * (n / x) ≡ n = omega arith in o)
+
+-- ---- each place once
+
+pub group_is_place : (size groups : List ℕ) (n : ℕ) → n < volume groups * volume size → IsPlace groups (place groups (n / volume size))
+group_is_place size groups n h =
+    let b = group_below groups size n h in
+    Parts _ _ _ refl (within_x _ _ _ _ b) (within_y _ _ _ _ b) (within_z _ _ _ _ b)
+
+pub local_is_place : (size groups : List ℕ) (n : ℕ) → n < volume groups * volume size → IsPlace size (place size (n % volume size))
+local_is_place size groups n h =
+    let b = local_below groups size n h in
+    Parts _ _ _ refl (within_x _ _ _ _ b) (within_y _ _ _ _ b) (within_z _ _ _ _ b)
+
+place_number : (size : List ℕ) (n : ℕ) → 0 < volume size → number_of size (place size n) ≡ n
+place_number size n h =
+    let x = slice_index size 0 in
+    let y = slice_index size 1 in
+    let z = slice_index size 2 in
+    number_again n x y (factor x (y * z) (omega arith)) (factor y z (other_factor x (y * z) (omega arith)))
+
+pub number_of_ids : (size groups : List ℕ) (n : ℕ) → n < volume groups * volume size
+    → number_of groups (place groups (n / volume size)) * volume size + number_of size (place size (n % volume size)) ≡ n
+number_of_ids size groups n h =
+    let some = some_of (volume groups) (volume size) n h in
+    let v = volume size in
+    let g = place_number groups (n / v) some.0 in
+    let l = place_number size (n % v) some.1 in
+    let e : n / volume size * volume size + n % volume size ≡ n = omega arith in
+    ap (λ (k : ℕ). k * volume size + number_of size (place size (n % volume size))) g ∙ (ap (λ (k : ℕ). n / volume size * volume size + k) l ∙ e)
+
+-- a number that is made of a place has that place
+place_again : (x y p q r : ℕ) → p < x → q < y → (let n = p + x * (q + y * r) in (n % x ≡ p) × (n / x % y ≡ q) × (n / x / y ≡ r))
+place_again x y p q r hp hq =
+    let c : p + x * (q + y * r) ≡ (q + y * r) * x + p = omega arith in
+    let d : q + y * r ≡ r * y + q = omega arith in
+    let m = ap (λ (k : ℕ). k % x) c ∙ (mul-add-mod_self_right (q + y * r) x p ∙ mod-eq_of_lt hp) in
+    let v = ap (λ (k : ℕ). k / x) c ∙ div-mul-add (q + y * r) x p hp in
+    let b = ap (λ (k : ℕ). k % y) (v ∙ d) ∙ (mul-add-mod_self_right r y q ∙ mod-eq_of_lt hq) in
+    let w = ap (λ (k : ℕ). k / y) (v ∙ d) ∙ div-mul-add r y q hq in
+    (m, b, w)
+
+number_below : (x y z p q r : ℕ) → p < x → q < y → r < z → p + x * (q + y * r) < x * y * z
+number_below x y z p q r hp hq hr =
+    let a = mul-le-mul_left {m = r + 1} {n = z} y (omega arith) in
+    let b = mul-le-mul_left {m = q + y * r + 1} {n = y * z} x (omega arith) in
+    omega arith
+
+same_parts : (a b c x y z : ℕ) → a ≡ x → b ≡ y → c ≡ z → a ∷ b ∷ c ∷ [] ≡ x ∷ y ∷ z ∷ []
+same_parts a b c x y z p q r =
+    ap (λ (v : ℕ). v ∷ b ∷ c ∷ []) p ∙ (ap (λ (v : ℕ). x ∷ v ∷ c ∷ []) q ∙ ap (λ (v : ℕ). x ∷ y ∷ v ∷ []) r)
+
+place_of_number : (size : List ℕ) (x y z : ℕ) → x < slice_index size 0 → y < slice_index size 1 → place size (number_of size (x ∷ y ∷ z ∷ [])) ≡ x ∷ y ∷ z ∷ []
+place_of_number size x y z hx hy =
+    let r = place_again (slice_index size 0) (slice_index size 1) x y z hx hy in
+    same_parts _ _ _ x y z r.0 r.1 r.2
+
+reached_at : (size groups : List ℕ) (g l : ℕ) → g < volume groups → l < volume size
+    → (g * volume size + l < volume groups * volume size) × ((g * volume size + l) / volume size ≡ g) × ((g * volume size + l) % volume size ≡ l)
+reached_at size groups g l hg hl =
+    let m = mul-le-mul_right {m = g + 1} {n = volume groups} (volume size) (omega arith) in
+    (omega arith, div-mul-add g (volume size) l hl, mul-add-mod_self_right g (volume size) l ∙ mod-eq_of_lt hl)
+
+pub reached : (size groups group local : List ℕ) → IsPlace groups group → IsPlace size local
+    → (n : ℕ) × (n < volume groups * volume size) × (place groups (n / volume size) ≡ group) × (place size (n % volume size) ≡ local)
+reached size groups group local (Parts gx gy gz ge ga gb gc) (Parts lx ly lz le la lb lc) =
+    let g = number_of groups (gx ∷ gy ∷ gz ∷ []) in
+    let l = number_of size (lx ∷ ly ∷ lz ∷ []) in
+    let hg = number_below (slice_index groups 0) (slice_index groups 1) (slice_index groups 2) gx gy gz ga gb gc in
+    let hl = number_below (slice_index size 0) (slice_index size 1) (slice_index size 2) lx ly lz la lb lc in
+    let r = reached_at size groups g l hg hl in (
+      g * volume size + l,
+      r.0,
+      ap (place groups) r.1 ∙ (place_of_number groups gx gy gz ga gb ∙ sym ge),
+      ap (place size) r.2 ∙ (place_of_number size lx ly lz la lb ∙ sym le),
+    )

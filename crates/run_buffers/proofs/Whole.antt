@@ -1,6 +1,6 @@
 -- Whole texts: one reading, one place of refusal, and where reading a text stops.
-use Rattle.std.proofs.Common.{◌≡◌, ℕ, ◌-◌, ◌<◌, ◌≤◌, ◌^◌, Option, Some, None, List, [], ◌∷◌, ◌++◌, length, take, drop, refl, sym, ap, subst, ◌∙◌, inl, inr, arith}
-use Rattle.std.proofs.lemmas.List.{append_assoc, append-nil, append_cancel_left, length-append, take-append-drop, length-take, length-drop}
+use Rattle.std.proofs.Common.{◌≡◌, ℕ, ◌+◌, ◌-◌, ◌<◌, ◌≤◌, ◌^◌, Option, Some, None, List, [], ◌∷◌, ◌++◌, length, take, drop, refl, sym, ap, subst, ◌∙◌, inl, inr, arith}
+use Rattle.std.proofs.lemmas.List.{append_assoc, append-nil, append_cancel_left, length-append, take-append-drop, length-take, length-drop, take_at, take_all}
 use Rattle.run_buffers.specs.declared.buffer.Buffer.{Buffer}
 use Rattle.run_buffers.specs.Texts.{line_of, text_of, Fits, IsTextOf, GoesOn, RefusedAt, WrongByte, EndsEarly}
 use Rattle.run_buffers.specs.Lines.{Ahead, FitsIn, ahead_behind, Breaks}
@@ -148,3 +148,19 @@ breaks_fits bytes left s = record {
 pub text_push : (bs : List Buffer) (b : Buffer) → text_of (bs ++ b ∷ []) ≡ text_of bs ++ line_of b
 text_push [] b = append-nil (line_of b)
 text_push (x ∷ xs) b = ap (λ (us : List ℕ). line_of x ++ us) (text_push xs b) ∙ sym (append_assoc (line_of x) (text_of xs) (line_of b))
+
+-- ---- the place in other words
+
+pub goes_on_before_place : (bytes : List ℕ) (p : ℕ) → RefusedAt bytes p → GoesOn (take p bytes)
+goes_on_before_place bytes p (WrongByte front b back e pe g none) = subst GoesOn (sym (ap (λ (us : List ℕ). take p us) e ∙ take_at front (b ∷ back) p (sym pe))) g
+goes_on_before_place bytes p (EndsEarly g none pe) = subst GoesOn (sym (take_all p bytes (omega arith))) g
+
+pub none_with_place : (bytes : List ℕ) (p : ℕ) → RefusedAt bytes p → p < length bytes → GoesOn (take (p + 1) bytes) → ⊥
+none_with_place bytes p (WrongByte front b back e pe g none) lt longer =
+    let l = length-append front (b ∷ []) in
+    none (subst GoesOn (ap (λ (us : List ℕ). take (p + 1) us) (e ∙ sym (append_assoc front (b ∷ []) back)) ∙ take_at (front ++ b ∷ []) back (p + 1) (omega arith)) longer)
+none_with_place bytes p (EndsEarly g none pe) lt longer = omega arith
+
+pub place_in_limit : (bytes : List ℕ) (p : ℕ) → RefusedAt bytes p → p ≤ 16777216
+place_in_limit bytes p (WrongByte front b back e pe g none) = let s = g.short in omega arith
+place_in_limit bytes p (EndsEarly g none pe) = let s = g.short in omega arith

@@ -1,5 +1,5 @@
 -- The invocations of a run: how many, in which order, and the built-in values of each.
-use Rattle.std.specs.Prelude.{ℕ, ◌+◌, ◌*◌, ◌/◌, ◌%◌, List, [], ◌∷◌, slice_index}
+use Rattle.std.specs.Prelude.{◌≡◌, ℕ, ◌+◌, ◌*◌, ◌/◌, ◌%◌, ◌<◌, List, [], ◌∷◌, slice_index}
 use Rattle.run_buffers.specs.declared.ids.Ids.{Ids}
 
 -- how many places there are along x, y and z together
@@ -29,3 +29,7 @@ ids_of size groups n =
     let group = place groups (n / volume size) in
     let local = place size (n % volume size) in
     record { group = group; local = local; global = global_of size group local; index = number_of size local }
+
+-- a place of three parts, each below the size
+pub data IsPlace (size : List ℕ) (p : List ℕ) : Type 0 where
+  Parts : (x y z : ℕ) → p ≡ x ∷ y ∷ z ∷ [] → x < slice_index size 0 → y < slice_index size 1 → z < slice_index size 2 → IsPlace size p

@@ -1,5 +1,5 @@
 -- The words of buffers by position and index.
-use Rattle.std.specs.Prelude.{ℕ, zero, suc, Bool, ◌||◌, ◌&&◌, ◌==◌, nat_lt, Option, List, [], ◌∷◌, map, slice_get, slice_set}
+use Rattle.std.specs.Prelude.{ℕ, zero, suc, Bool, ◌||◌, ◌&&◌, ◌==◌, nat_lt, if◌then◌else◌, Option, List, [], ◌∷◌, map, slice_get, slice_set}
 use Rattle.run_buffers.specs.declared.buffer.Buffer.{Buffer}
 
 -- the set and the binding of each buffer
@@ -25,3 +25,8 @@ with_word (b ∷ bs) (suc position) index word = b ∷ with_word bs position ind
 -- the buffer stands before one with that set and binding
 abbrev pub is_before : ℕ → ℕ → Buffer → Bool
 is_before set binding b = nat_lt b.set set || (b.set == set && nat_lt b.binding binding)
+
+-- the words of the buffer with a set and a binding; none where there is no such buffer
+abbrev pub words_of : List Buffer → ℕ → ℕ → List ℕ
+words_of [] set binding = []
+words_of (b ∷ bs) set binding = if b.set == set && b.binding == binding then b.words else words_of bs set binding

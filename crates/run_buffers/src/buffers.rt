@@ -1,11 +1,11 @@
 // The buffers of a run, which contracts see as a list by set and binding.
 
-ghost use Rattle.std.specs.Prelude.{◌≡◌, ◌↔◌, ℕ, List, [], length, take, slice_get, IsTrue, IfOk, Ok, Err, Some, IsSome, IfSome};
+ghost use Rattle.std.specs.Prelude.{◌≡◌, ◌↔◌, ℕ, List, [], length, take, slice_get, IsTrue, IfOk, Ok, Err, Some, IsSome, IfSome, MatchOption};
 ghost use Rattle.slang_tree.specs.declared.faults.RunCause.TheVariants.{BufferText};
 ghost use Rattle.run_buffers.specs.declared.buffer.Buffer.{Buffer};
 ghost use Rattle.run_buffers.specs.declared.faults.RunFault.TheVariants.{Refused};
 ghost use Rattle.run_buffers.specs.Texts.{text_of, Fits, IsTextOf, RefusedAt};
-ghost use Rattle.run_buffers.specs.Memory.{slots, words_at, word_at, with_word};
+ghost use Rattle.run_buffers.specs.Memory.{slots, words_at, words_of, word_at, with_word};
 ghost use Rattle.run_buffers.specs.Refusals.{IfTextRefused, UnlessMemory};
 
 use crate::access;
@@ -86,6 +86,7 @@ impl Buffers {
     pub fn find(&self, set: u32, binding: u32) -> Option<usize>
         ensures found { IfSome result (λ position. slice_get (slots self.now) position ≡ Some (set, binding)) }
         ensures only { (position : ℕ) → slice_get (slots self.now) position ≡ Some (set, binding) → result ≡ Some position }
+        ensures words { MatchOption result (words_of self.now set binding ≡ []) (λ position. words_of self.now set binding ≡ words_at self.now position) }
     {
         access::find(&self.buffers, set, binding)
     }

@@ -8,6 +8,7 @@ mod faults;
 mod fields;
 mod ids;
 mod invocations;
+mod laws;
 mod line_reading;
 mod lines;
 mod numbers;
@@ -20,3 +21,7 @@ pub use buffers::Buffers;
 pub use faults::RunFault;
 pub use ids::Ids;
 pub use invocations::{ids_of, invocation_count};
+pub use laws::{each_invocation_once, one_reading, one_refusal, write_changes_one_word};
+
+#[cfg(test)]
+mod tests;

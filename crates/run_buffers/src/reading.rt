@@ -10,11 +10,8 @@ ghost use Rattle.run_buffers.specs.Lines.{ahead_of, FitsIn, Breaks, IfStopped};
 use crate::buffer::Buffer;
 use crate::line_reading::line;
 use crate::lines::{Room, Stop};
-use sqlite_items::Items;
+use slang_tree::limits::BUFFER_WORDS;
 use std::alloc::{AllocError, Global};
-
-/// The most words of a text.
-const WORDS: u32 = 1_048_576;
 
 /// What may come behind a buffer.
 fn room_behind(room: Room, buffer: &Buffer) -> Option<Room>
@@ -79,7 +76,7 @@ pub fn text(alloc: Global, bytes: &[u8]) -> Result<Vec<Buffer>, Stop>
     let mut room = Some(Room {
         set: 0,
         binding: 0,
-        words: WORDS,
+        words: BUFFER_WORDS as u32,
     });
     let mut rest = bytes;
     while !rest.is_empty() {
