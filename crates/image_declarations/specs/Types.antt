@@ -19,14 +19,18 @@ number_by sort n = 0
 abbrev pub length_of : List Instruction → ℕ → ℕ
 length_of code id = number_by (sort code id) (operand code id 2)
 
+-- where the last scalar of a part ends that begins there, by its end in the part: a part without scalars has none
+abbrev pub end_of : ℕ → ℕ → ℕ
+end_of start extent = cond (nat_eq extent 0) 0 (start + extent)
+
 -- the end of the last scalar of an array, by the end of its element's
 abbrev pub span : ℕ → ℕ → ℕ → ℕ
-span count stride end = cond (nat_eq count 0) 0 ((count - 1) * stride + end)
+span count stride end = cond (nat_eq count 0) 0 (end_of ((count - 1) * stride) end)
 
--- the greatest end of the scalars of a struct's members, of which the first has this number
+-- the greatest end of the scalars of a struct's members, of which the first has this number; 0 where there are none
 abbrev pub fields_extent : List Instruction → (ℕ → TypeFacts) → ℕ → ℕ → List ℕ → ℕ
 fields_extent code known id number [] = 0
-fields_extent code known id number (t ∷ ts) = max (offset_of code id number + (known t).extent) (fields_extent code known id (number + 1) ts)
+fields_extent code known id number (t ∷ ts) = max (end_of (offset_of code id number) (known t).extent) (fields_extent code known id (number + 1) ts)
 
 abbrev pub no_facts : TypeFacts
 no_facts = record { is_data = false; unbounded = false; extent = 0 }

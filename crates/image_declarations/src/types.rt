@@ -3,7 +3,7 @@
 ghost use Rattle.std.specs.Prelude.{◌≡◌, ◌^◌, IfOk, min};
 ghost use Rattle.std.specs.List.{list_any, list_all};
 ghost use Rattle.std.specs.Option.{option_map};
-ghost use Rattle.image_declarations.specs.Types.{capped, fields_extent, span, facts_of, length_of, known_by, Tells};
+ghost use Rattle.image_declarations.specs.Types.{capped, end_of, fields_extent, span, facts_of, length_of, known_by, Tells};
 
 use crate::Decorations;
 use crate::reach::{behind_first, operand_of};
@@ -69,7 +69,17 @@ fn any_unbounded(known: &HashMap<u32, TypeFacts>, members: &[u32]) -> bool
     false
 }
 
-/// The end of the last scalar of a struct.
+/// Where the last scalar of a part ends that begins there; 0 for a part without scalars.
+fn end_of(start: u64, extent: u64) -> u64
+    ensures { result ≡ min (end_of start extent) (2 ^ 32) }
+{
+    if extent == 0 {
+        return 0;
+    }
+    start.min(FAR).saturating_add(extent).min(FAR)
+}
+
+/// The end of the last scalar of a struct; 0 where it has none.
 fn fields_extent(
     known: &HashMap<u32, TypeFacts>,
     decorations: &Decorations,
@@ -81,13 +91,13 @@ fn fields_extent(
     let mut extent: u64 = 0;
     for (number, member) in members.iter().enumerate() {
         let start = u64::from(decorations.offset(id, number));
-        let end = start + facts_at(known, *member).extent.min(FAR);
+        let end = end_of(start, facts_at(known, *member).extent);
         extent = extent.max(end).min(FAR);
     }
     extent
 }
 
-/// The end of the last scalar of an array.
+/// The end of the last scalar of an array; 0 where it has none.
 fn span(count: u32, stride: u32, end: u64) -> u64
     ensures { result ≡ min (span count stride end) (2 ^ 32) }
 {
@@ -95,7 +105,7 @@ fn span(count: u32, stride: u32, end: u64) -> u64
         return 0;
     }
     let start = u64::from(count - 1) * u64::from(stride);
-    start.min(FAR).saturating_add(end).min(FAR)
+    end_of(start, end)
 }
 
 fn struct_facts(

@@ -342,10 +342,51 @@ const FREE: [Case; 4] = [
     },
 ];
 
+/// The shader with a buffer of structs of a uint and an empty struct, 4 bytes each, and another offset of the empty one
+/// than of the uint: it has no scalar that ends behind the stride. The last words come first.
+const EMPTY: [Case; 4] = [
+    Case {
+        at: 254,
+        rest: 260,
+        new: &[0x70041, 0x1b, 0x36, 0x2b, 0xd, 0x32, 0xd],
+        place: 0,
+    },
+    Case {
+        at: 105,
+        rest: 108,
+        new: &[0x2001e, 0x37, 0x4001e, 0x38, 4, 0x37, 0x3001d, 0xf, 0x38],
+        place: 0,
+    },
+    Case {
+        at: 31,
+        rest: 31,
+        new: &[0x50048, 0x38, 0, 0x23, 0, 0x50048, 0x38, 1, 0x23, 8],
+        place: 0,
+    },
+    Case {
+        at: 3,
+        rest: 4,
+        new: &[0x39],
+        place: 0,
+    },
+];
+
+fn edited(alloc: Global, words: &[u32], case: &Case) -> Result<Vec<u32>, Fail> {
+    let mut out = words.get(..case.at).ok_or("at")?.to_vec(alloc)?;
+    out.extend_from_slice(case.new)?;
+    out.extend_from_slice(words.get(case.rest..).ok_or("rest")?)?;
+    Ok(out)
+}
+
 fn with_case(alloc: Global, case: &Case) -> Result<Vec<u32>, Fail> {
-    let mut words = INCREMENT.get(..case.at).ok_or("at")?.to_vec(alloc)?;
-    words.extend_from_slice(case.new)?;
-    words.extend_from_slice(INCREMENT.get(case.rest..).ok_or("rest")?)?;
+    edited(alloc, &INCREMENT, case)
+}
+
+fn with_empty(alloc: Global) -> Result<Vec<u32>, Fail> {
+    let mut words = INCREMENT.to_vec(alloc)?;
+    for case in &EMPTY {
+        words = edited(alloc, words.as_slice(), case)?;
+    }
     Ok(words)
 }
 
@@ -357,6 +398,13 @@ fn fault_of(alloc: Global, words: &[u32]) -> Result<Option<usize>, Fail> {
 #[test]
 fn the_shader_fits(rt: HostRuntime) -> Result<(), Fail> {
     assert_eq!(rt; fault_of(rt.alloc(), &INCREMENT)?, None);
+    Ok(())
+}
+
+#[test]
+fn parts_without_scalars_end_nowhere(rt: HostRuntime) -> Result<(), Fail> {
+    let words = with_empty(rt.alloc())?;
+    assert_eq!(rt; fault_of(rt.alloc(), words.as_slice())?, None);
     Ok(())
 }
 
