@@ -45,10 +45,10 @@ of_number FileLimit = refl
 same_code : (c d : ImageCode) → code_number c ≡ code_number d → c ≡ d
 same_code c d e = sym (of_number c) ∙ (ap code_of e ∙ of_number d)
 
-no_fault : (image : Image) (p : ℕ) (c : ImageCode) → Valid image → FirstInvalid image p c → ⊥
+pub no_fault : (image : Image) (p : ℕ) (c : ImageCode) → Valid image → FirstInvalid image p c → ⊥
 no_fault image p c v f = v.keeps c p f.first.0
 
-one_fault : (image : Image) (p q : ℕ) (c d : ImageCode) → FirstInvalid image p c → FirstInvalid image q d → (p ≡ q) × (c ≡ d)
+pub one_fault : (image : Image) (p q : ℕ) (c d : ImageCode) → FirstInvalid image p c → FirstInvalid image q d → (p ≡ q) × (c ≡ d)
 one_fault image p q c d a b =
     let codes = same_code c d (one_code image p q c d a b) in
     let P : ImageCode → Type 0 = λ e. IsFirst (Breaks image e) (Some p) in

@@ -10,5 +10,7 @@ mod tests;
 mod valid;
 
 pub use check::check_image;
-pub use laws::{a_valid_image_begins_with_its_entry, entry_name_is_read};
+pub use laws::{
+    a_valid_image_begins_with_its_entry, an_image_has_one_first_fault, entry_name_is_read,
+};
 pub use valid::ValidImage;

@@ -1,6 +1,6 @@
 // Valid images.
 
-ghost use Rattle.std.specs.Prelude.{◌≡◌, IfOk};
+ghost use Rattle.std.specs.Prelude.{◌≡◌, ◌*◌, ◌<◌, ◌≤◌, slice_index, IfOk};
 ghost use Rattle.spirv_check.specs.Entry.{entry_name, group_size};
 ghost use Rattle.spirv_check.specs.Valid.{Valid};
 
@@ -59,9 +59,11 @@ impl ValidImage {
         &self.name
     }
 
-    /// The sizes of a group of its entry in x, y and z.
+    /// The sizes of a group of its entry in x, y and z. A group has at least one invocation, and at most 1,024.
     pub fn group_size(&self) -> [u32; 3]
-        ensures { result ≡ group_size self.now.instructions }
+        ensures sizes { result ≡ group_size self.now.instructions }
+        ensures some { 0 < slice_index result 0 * slice_index result 1 * slice_index result 2 }
+        ensures few { slice_index result 0 * slice_index result 1 * slice_index result 2 ≤ 1024 }
     {
         self.size
     }
