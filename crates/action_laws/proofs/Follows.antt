@@ -1,14 +1,14 @@
 -- The steps of a chain lead to the piece at the path that its indices stand for.
-use Rattle.std.proofs.Common.{◌≡◌, ℕ, zero, suc, ◌+◌, ◌*◌, ◌^◌, ◌<◌, ◌≤◌, ◌⊎◌, inl, inr, Bool, true, false, not, ◌&&◌, ◌||◌, cond, List, [], ◌∷◌, length, get_or, refl, sym, ap, ◌∙◌, add_assoc, suc-mul, mul-le-mul_right, arith}
+use Rattle.std.proofs.Common.{◌≡◌, ℕ, zero, suc, ◌+◌, ◌-◌, ◌*◌, min, ◌^◌, ◌<◌, ◌≤◌, ◌⊎◌, inl, inr, Bool, true, false, not, ◌&&◌, ◌||◌, cond, List, [], ◌∷◌, length, get_or, refl, sym, ap, ◌∙◌, add_assoc, suc-mul, mul-le-mul_right, arith}
 use Rattle.std.specs.Prelude.{nat_lt}
-use Rattle.std.proofs.lemmas.Bool.{lt-ltb, ltb-true, cond-true, not-true, not-false, and_parts, and_cases, or_from, or_left, or_right, cases_Bool}
+use Rattle.std.proofs.lemmas.Bool.{lt-ltb, ltb-true, not-true, not-false, and_parts, and_cases, or_from, or_left, or_right, cases_Bool}
 use Rattle.behavior.specs.Operations.{is_negative}
 use Rattle.spirv_words.specs.Machine.{Shape, Shapes, Nothing, Truths, Words, Repeated, Unbounded, Fields, PointerTo, NoField, Field}
 use Rattle.flat_values.specs.Flat.{width, widths}
 use Rattle.flat_values.specs.Pieces.{Piece, At, OutOfRange, NoPart, member, piece_of, then_piece, piece}
 use Rattle.run_actions.specs.declared.actions.Extent.TheVariants.{Fixed}
 use Rattle.run_actions.specs.declared.actions.Index.{Index}
-use Rattle.run_actions.specs.declared.turns.Followed.TheVariants.{To, Beyond, Lost}
+use Rattle.run_actions.specs.declared.turns.Followed.TheVariants.{To, Beyond}
 use Rattle.run_actions.specs.Chains.{to_word, is_chosen, all_chosen, distance, moved_on}
 use Rattle.action_laws.specs.Paths.{Item, Member, Slot, Planned, Plan, NoPlan, moved, stepped, on_piece, plan, path_of, some_negative, AreThere, led}
 
@@ -84,7 +84,7 @@ piece_from NoPart go offset steps t e = cc
 -- ---- one step
 
 pub to_word_is : (place : ℕ) → place < 2 ^ 32 → to_word place ≡ To place
-to_word_is place h = cond-true _ (To place) Lost (lt-ltb place (2 ^ 32) h)
+to_word_is place h = let n : min place (2 ^ 32 - 1) ≡ place = omega arith in ap To n
 
 led_beyond : (b : Bool) (p : Piece) → p ≡ OutOfRange → Beyond ≡ led b p
 led_beyond true p e = refl

@@ -1,7 +1,7 @@
 -- The steps of a chain in a buffer lead to the byte at the path that its indices stand for.
-use Rattle.std.proofs.Common.{◌≡◌, ℕ, zero, suc, ◌+◌, ◌*◌, ◌/◌, ◌%◌, ◌^◌, ◌<◌, ◌⊎◌, inl, inr, Bool, true, false, ◌&&◌, ◌||◌, cond, List, [], ◌∷◌, length, get_or, Option, Some, None, refl, sym, ap, ◌∙◌, mul_left_comm, mul-add, arith}
+use Rattle.std.proofs.Common.{◌≡◌, ℕ, zero, suc, ◌+◌, ◌-◌, ◌*◌, min, ◌/◌, ◌%◌, ◌^◌, ◌<◌, ◌⊎◌, inl, inr, Bool, true, false, ◌&&◌, ◌||◌, cond, List, [], ◌∷◌, length, get_or, Option, Some, None, refl, sym, ap, ◌∙◌, mul_left_comm, mul-add, arith}
 use Rattle.std.specs.Prelude.{nat_lt, nat_eq}
-use Rattle.std.proofs.Math.Nat.{mul-div-mul_left, mul-div_cancel_left}
+use Rattle.std.proofs.Math.Nat.{mul-div-mul_left}
 use Rattle.std.proofs.lemmas.Bool.{lt-ltb, eqb-true, and_parts, or_from, or_left, or_right, cases_Bool}
 use Rattle.behavior.specs.Operations.{is_negative}
 use Rattle.spirv_words.specs.Machine.{Shape, Shapes, Nothing, Truths, Words, Repeated, Unbounded, Fields, PointerTo, if_some}
@@ -12,7 +12,7 @@ use Rattle.run_actions.specs.declared.actions.Index.{Index}
 use Rattle.run_actions.specs.declared.turns.Followed.TheVariants.{To, Beyond}
 use Rattle.run_actions.specs.Chains.{whole, extent_of, to_word, is_chosen, all_chosen, distance, moved_on}
 use Rattle.action_laws.specs.Paths.{Item, Member, Slot, Planned, Plan, NoPlan, moved, stepped, in_words, buffer_plan, path_of, some_negative, AreThere, led_in_buffer}
-use Rattle.action_laws.proofs.Follows.{plan_offset, plan_steps, plan_shape, moved_from, stepped_from, chosen_parts, unchosen_parts, to_word_is}
+use Rattle.action_laws.proofs.Follows.{plan_offset, plan_steps, plan_shape, moved_from, stepped_from, chosen_parts, unchosen_parts}
 
 -- ---- plans
 
@@ -205,24 +205,23 @@ led_outside false p e = ap (led_in_buffer false) (sym e)
 
 pub leads_in_buffer : (s t : Shape) (items : List Item) (offset x words : ℕ) (steps : List Index) (ws : List ℕ)
     → buffer_plan s items ≡ Plan offset steps t → AreThere ws items
-    → ((q : ℕ) (u : Shape) → spot words s (path_of ws items) (4 * x) ≡ Byte q u → q < 4 * 2 ^ 32)
-    → moved_on ws words steps x offset ≡ led_in_buffer (some_negative ws items) (spot words s (path_of ws items) (4 * x))
-leads_in_buffer s t items offset x words steps ws p there h = either (cases_Bool (all_chosen ws words steps))
+    → moved_on ws words steps (min x (2 ^ 32 - 1)) offset ≡ led_in_buffer (some_negative ws items) (spot words s (path_of ws items) (4 * x))
+leads_in_buffer s t items offset x words steps ws p there = either (cases_Bool (all_chosen ws words steps))
   where
     missed : Missed items s x ws words → Beyond ≡ led_in_buffer (some_negative ws items) (spot words s (path_of ws items) (4 * x))
     missed (inl n) = ap (λ b. led_in_buffer b (spot words s (path_of ws items) (4 * x))) (sym n)
     missed (inr e) = led_outside (some_negative ws items) (spot words s (path_of ws items) (4 * x)) e
 
     either : (all_chosen ws words steps ≡ true) ⊎ (all_chosen ws words steps ≡ false)
-        → moved_on ws words steps x offset ≡ led_in_buffer (some_negative ws items) (spot words s (path_of ws items) (4 * x))
+        → moved_on ws words steps (min x (2 ^ 32 - 1)) offset ≡ led_in_buffer (some_negative ws items) (spot words s (path_of ws items) (4 * x))
     either (inl c) =
         let r = reaches items s t offset x steps ws words p c in
         let q = x + offset + distance ws steps in
-        let bound = h (4 * q) t r.1 in
-        let small : q < 2 ^ 32 = omega arith in
-        ap (λ b. cond b (to_word q) Beyond) c
-        ∙ (to_word_is q small ∙ (ap To (sym (mul-div_cancel_left q {n = 4} (omega arith)))
-        ∙ sym (ap (λ b. led_in_buffer b (spot words s (path_of ws items) (4 * x))) r.0 ∙ ap (led_in_buffer false) r.1)))
+        let least = min x (2 ^ 32 - 1) + offset + distance ws steps in
+        let n : min least (2 ^ 32 - 1) ≡ min ((4 * q) / 4) (2 ^ 32 - 1) = omega arith in
+        ap (λ b. cond b (to_word least) Beyond) c
+        ∙ (ap To n
+        ∙ sym (ap (λ b. led_in_buffer b (spot words s (path_of ws items) (4 * x))) r.0 ∙ ap (led_in_buffer false) r.1))
     either (inr c) =
-        ap (λ b. cond b (to_word (x + offset + distance ws steps)) Beyond) c
+        ap (λ b. cond b (to_word (min x (2 ^ 32 - 1) + offset + distance ws steps)) Beyond) c
         ∙ missed (misses items s t offset x steps ws words p there c)

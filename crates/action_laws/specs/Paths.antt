@@ -1,5 +1,5 @@
 -- The indices of an access chain, resolved to a fixed offset and steps.
-use Rattle.std.specs.Prelude.{ℕ, ◌+◌, ◌/◌, ◌%◌, ◌<◌, ◌&&◌, ◌||◌, Bool, true, false, cond, nat_eq, List, [], ◌∷◌, length, slice_index}
+use Rattle.std.specs.Prelude.{ℕ, ◌+◌, ◌-◌, ◌/◌, ◌%◌, ◌^◌, ◌<◌, min, ◌&&◌, ◌||◌, Bool, true, false, cond, nat_eq, List, [], ◌∷◌, length, slice_index}
 use Rattle.behavior.specs.Operations.{is_negative}
 use Rattle.spirv_words.specs.Machine.{Shape, Repeated, Unbounded, Fields, if_some}
 use Rattle.spirv_words.specs.Step.{field_at, Spot, Byte, Beyond as Outside, Nowhere}
@@ -8,7 +8,7 @@ use Rattle.flat_values.specs.Pieces.{Piece, At, OutOfRange, NoPart, member}
 use Rattle.run_actions.specs.declared.actions.Extent.TheVariants.{Fixed, Whole}
 use Rattle.run_actions.specs.declared.actions.Index.{Index}
 use Rattle.run_actions.specs.declared.turns.Followed.{Followed}
-use Rattle.run_actions.specs.declared.turns.Followed.TheVariants.{To, Beyond, Lost}
+use Rattle.run_actions.specs.declared.turns.Followed.TheVariants.{To, Beyond}
 
 -- an index: the number of a member, or the place of a word that is an int or not
 pub data Item : Type 0 where
@@ -78,10 +78,11 @@ abbrev pub led : Bool → Piece → Followed
 led true p = Beyond
 led false (At place of) = To place
 led false OutOfRange = Beyond
-led false NoPart = Lost
+led false NoPart = Beyond
 
+-- the same in a buffer: a byte's word, as far as a word tells
 abbrev pub led_in_buffer : Bool → Spot → Followed
 led_in_buffer true p = Beyond
-led_in_buffer false (Byte n of) = To (n / 4)
+led_in_buffer false (Byte n of) = To (min (n / 4) (2 ^ 32 - 1))
 led_in_buffer false Outside = Beyond
-led_in_buffer false Nowhere = Lost
+led_in_buffer false Nowhere = Beyond

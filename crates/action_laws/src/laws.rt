@@ -1,8 +1,8 @@
 // Laws of the definitions, each the contract of a function that does nothing.
 
-ghost use Rattle.std.specs.Prelude.{◌≡◌, ℕ, ◌+◌, ◌*◌, ◌<◌, ◌≤◌, ◌^◌, true, List, [], ◌∷◌, Some, None, length, map, cond, nat_eq};
+ghost use Rattle.std.specs.Prelude.{◌≡◌, ℕ, ◌+◌, ◌-◌, ◌*◌, min, ◌<◌, ◌≤◌, ◌^◌, true, List, [], ◌∷◌, Some, None, length, map, cond, nat_eq};
 ghost use Rattle.spirv_words.specs.Machine.{Shape};
-ghost use Rattle.spirv_words.specs.Step.{spot, Byte};
+ghost use Rattle.spirv_words.specs.Step.{spot};
 ghost use Rattle.flat_values.specs.declared.operators.Unary.{Unary};
 ghost use Rattle.flat_values.specs.declared.operators.Binary.{Binary};
 ghost use Rattle.flat_values.specs.Operators.{unary_of, binary_of};
@@ -71,11 +71,10 @@ pub fn chains_lead_to_pieces()
         → plan s items ≡ Plan offset steps t → piece s (path_of ws items) from ≡ At q u → u ≡ t }
 {}
 
-/// The same in a buffer: where the indices are resolved, they lead to the word of the byte at the path that they stand for, as
-/// long as that word's number is one of 32 bits.
+/// The same in a buffer: where the indices are resolved, they lead to the word of the byte at the path that they stand for. A word
+/// whose number has more than 32 bits is told as the last one.
 pub fn buffer_chains_lead_to_bytes()
     ensures { (s t : Shape) (items : List Item) (offset x words : ℕ) (steps : List Index) (ws : List ℕ)
         → buffer_plan s items ≡ Plan offset steps t → AreThere ws items
-        → ((q : ℕ) (u : Shape) → spot words s (path_of ws items) (4 * x) ≡ Byte q u → q < 4 * 2 ^ 32)
-        → moved_on ws words steps x offset ≡ led_in_buffer (some_negative ws items) (spot words s (path_of ws items) (4 * x)) }
+        → moved_on ws words steps (min x (2 ^ 32 - 1)) offset ≡ led_in_buffer (some_negative ws items) (spot words s (path_of ws items) (4 * x)) }
 {}

@@ -1,10 +1,8 @@
 -- A walk over the indices of a chain.
-use Rattle.std.proofs.Common.{◌≡◌, ℕ, ◌+◌, ◌-◌, ◌^◌, ◌<◌, ◌≤◌, ◌⊎◌, inl, inr, min, Bool, true, false, cond, ◌&&◌, List, [], ◌∷◌, length, get_or, drop, Option, Some, None, refl, sym, ap, ◌∙◌, arith}
-use Rattle.std.proofs.lemmas.Bool.{cases_lt, lt-ltb, le-ltb}
+use Rattle.std.proofs.Common.{◌≡◌, ℕ, ◌+◌, ◌-◌, ◌^◌, ◌<◌, ◌≤◌, min, Bool, true, false, cond, ◌&&◌, List, length, get_or, drop, Option, Some, None, refl, sym, ap, ◌∙◌, arith}
 use Rattle.std.proofs.lemmas.List.{drop_more, drop_all}
 use Rattle.run_actions.specs.declared.actions.Index.{Index}
-use Rattle.run_actions.specs.declared.turns.Followed.{Followed}
-use Rattle.run_actions.specs.declared.turns.Followed.TheVariants.{To, Beyond, Lost}
+use Rattle.run_actions.specs.declared.turns.Followed.TheVariants.{To, Beyond}
 use Rattle.run_actions.specs.Chains.{to_word, is_chosen, all_chosen, far, distance, moved_on}
 
 abbrev pub chosen : List ℕ → ℕ → Index → Option ℕ
@@ -47,13 +45,7 @@ more_far ws n k steps d m p p' total h e s r =
     omega arith
 
 same_word : (p t : ℕ) → min p (2 ^ 64 - 1) ≡ min t (2 ^ 64 - 1) → to_word p ≡ to_word t
-same_word p t e = either (cases_lt p (2 ^ 32))
-  where
-    either : (p < 2 ^ 32) ⊎ (2 ^ 32 ≤ p) → to_word p ≡ to_word t
-    either (inl l) = let s : p ≡ t = omega arith in ap to_word s
-    either (inr g) =
-        let g' : 2 ^ 32 ≤ t = omega arith in
-        ap (λ b. cond b (To p) Lost) (le-ltb p (2 ^ 32) g) ∙ sym (ap (λ b. cond b (To t) Lost) (le-ltb t (2 ^ 32) g'))
+same_word p t e = let n : min p (2 ^ 32 - 1) ≡ min t (2 ^ 32 - 1) = omega arith in ap To n
 
 pub all_done : (ws : List ℕ) (n from offset k p : ℕ) (steps : List Index) → length steps ≤ k
     → all_chosen ws n (drop k steps) ≡ all_chosen ws n steps

@@ -1,11 +1,11 @@
 -- Where the indices of an access chain lead.
-use Rattle.std.specs.Prelude.{ℕ, zero, suc, ◌+◌, ◌*◌, ◌/◌, ◌^◌, Bool, true, not, ◌&&◌, cond, nat_lt, List, [], ◌∷◌, length, slice_index}
+use Rattle.std.specs.Prelude.{ℕ, zero, suc, ◌+◌, ◌-◌, ◌*◌, ◌/◌, ◌^◌, min, Bool, true, not, ◌&&◌, cond, nat_lt, List, [], ◌∷◌, length, slice_index}
 use Rattle.behavior.specs.Operations.{is_negative}
 use Rattle.run_actions.specs.declared.actions.Extent.{Extent}
 use Rattle.run_actions.specs.declared.actions.Extent.TheVariants.{Fixed, Whole}
 use Rattle.run_actions.specs.declared.actions.Index.{Index}
 use Rattle.run_actions.specs.declared.turns.Followed.{Followed}
-use Rattle.run_actions.specs.declared.turns.Followed.TheVariants.{To, Beyond, Lost}
+use Rattle.run_actions.specs.declared.turns.Followed.TheVariants.{To, Beyond}
 
 -- how many whole strides a buffer of so many words has
 abbrev pub whole : ℕ → ℕ → ℕ
@@ -16,9 +16,9 @@ abbrev pub extent_of : Extent → ℕ → ℕ → ℕ
 extent_of (Fixed n) words stride = n
 extent_of Whole words stride = whole words stride
 
--- a place is a word
+-- a place, as far as a word tells
 abbrev pub to_word : ℕ → Followed
-to_word place = cond (nat_lt place (2 ^ 32)) (To place) Lost
+to_word place = To (min place (2 ^ 32 - 1))
 
 -- the word of an index is in its range
 abbrev pub is_within : Index → ℕ → ℕ → Bool

@@ -10,7 +10,7 @@ use Rattle.run_actions.specs.declared.actions.Action.TheVariants.{Pass, Put, One
 use Rattle.run_actions.specs.declared.actions.Move.{Move}
 use Rattle.run_actions.specs.declared.actions.Index.{Index}
 use Rattle.run_actions.specs.declared.turns.Followed.{Followed}
-use Rattle.run_actions.specs.declared.turns.Followed.TheVariants.{To, Beyond, Lost}
+use Rattle.run_actions.specs.declared.turns.Followed.TheVariants.{To, Beyond}
 use Rattle.run_actions.specs.declared.turns.Turn.{Turn}
 use Rattle.run_actions.specs.declared.turns.Turn.TheVariants.{Going, Reading, Writing, Ended, Undefined, Stuck}
 use Rattle.run_actions.specs.Ranges.{with_word, has, is_apart, put_at, put_both_at, clear_at, copy_at, gather_at, one_at}
@@ -33,7 +33,6 @@ goes_on place (Some ws) = Goes place ws
 abbrev pub with_place : Followed → (ℕ → FlatTurn) → FlatTurn
 with_place (To place) go = go place
 with_place Beyond go = IsUndefined
-with_place Lost go = IsStuck
 
 -- the words of two ranges, one by one
 abbrev pub two : Binary → ℕ → List ℕ → ℕ → ℕ → ℕ → ℕ → FlatTurn

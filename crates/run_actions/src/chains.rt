@@ -17,7 +17,7 @@ fn extent(of: Extent, words: u32, stride: u32) -> u32
     }
 }
 
-// A place that may be too large.
+// A place, as far as a word tells.
 #[inline]
 fn place_at(place: u64) -> Followed
     ensures { result ≡ to_word place }
@@ -25,7 +25,7 @@ fn place_at(place: u64) -> Followed
     if place <= u32::MAX as u64 {
         Followed::To(place as u32)
     } else {
-        Followed::Lost
+        Followed::To(u32::MAX)
     }
 }
 

@@ -223,7 +223,6 @@ fn make_pointer(
     match step_all(words, 0, steps, from, offset) {
         Followed::To(place) => going(put(words, to, place), next),
         Followed::Beyond => Turn::Undefined,
-        Followed::Lost => Turn::Stuck,
     }
 }
 
@@ -249,7 +248,6 @@ fn make_buffer_pointer(
     match step_all(words, lengths[buffer as usize], steps, from, offset) {
         Followed::To(place) => going(put_both(words, to, buffer, place), next),
         Followed::Beyond => Turn::Undefined,
-        Followed::Lost => Turn::Stuck,
     }
 }
 

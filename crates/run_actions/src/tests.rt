@@ -202,8 +202,9 @@ fn pointers_are_moved_on(rt: HostRuntime) -> Result<(), Fail> {
             chain(rt.alloc(), Extent::Fixed(0xffff_ffff), false)?,
             &mut words
         ),
-        Turn::Stuck
+        ON
     );
+    assert_eq!(rt; words, [0, 10, 0x8000_0000, 0, 0xffff_ffff]);
     Ok(())
 }
 

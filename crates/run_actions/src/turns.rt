@@ -21,6 +21,4 @@ pub enum Followed {
     To(u32),
     /// Out of a range.
     Beyond,
-    /// To no place that there is.
-    Lost,
 }

@@ -1,4 +1,4 @@
-use Rattle.std.proofs.Common.{◌+◌, sym, ◌∙◌, arith}
+use Rattle.std.proofs.Common.{◌+◌, sym, ◌∙◌}
 use Rattle.run_actions.specs.Chains.{distance}
 use Rattle.run_actions.proofs.Choosing.{none_chosen, more_chosen, more_far, all_done}
 use Rattle.run_actions.proofs.chains.step_all.Goals as goal
