@@ -1,0 +1,13 @@
+pub mod Kept
+pub mod Standing
+pub mod Ordered
+pub mod Shapes
+pub mod Values
+pub mod Front
+pub mod Used
+pub mod Seen
+pub mod Onward
+pub mod Contexts
+pub mod Entering
+pub mod Beginning
+pub mod Signatures
