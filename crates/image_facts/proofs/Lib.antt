@@ -1,0 +1,17 @@
+pub mod Likes
+pub mod Rules
+pub mod Outside
+pub mod Marks
+pub mod Made
+pub mod Sorts
+pub mod Fixpoint
+pub mod Facts
+pub mod Shapes
+pub mod Data
+pub mod Contexts
+pub mod Values
+pub mod Globals
+pub mod Reaching
+pub mod Reached
+pub mod Buffers
+pub mod Pairs
