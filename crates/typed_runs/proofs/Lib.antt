@@ -1,0 +1,16 @@
+pub mod Lanes
+pub mod Facts
+pub mod Types
+pub mod Going
+pub mod Operands
+pub mod Operators
+pub mod Paths
+pub mod Composites
+pub mod Memory
+pub mod Chains
+pub mod Jumps
+pub mod Calls
+pub mod Steps
+pub mod Begins
+pub mod Unstuck
+pub mod Known
