@@ -1,0 +1,6 @@
+pub mod Measuring
+pub mod Defined
+pub mod Sums
+pub mod Apart
+pub mod Growing
+pub mod Whole
