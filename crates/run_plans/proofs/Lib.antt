@@ -1,0 +1,9 @@
+pub mod Facts
+pub mod Placed
+pub mod Walking
+pub mod Chained
+pub mod Taken
+pub mod Bounded
+pub mod Ordered
+pub mod Written
+pub mod Acting

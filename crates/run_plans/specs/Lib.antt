@@ -1,0 +1,10 @@
+pub mod Kinds
+pub mod Actions
+pub mod Walks
+pub mod Steps
+pub mod Calls
+pub mod Ground
+pub mod Plans
+pub mod Values
+pub mod Buffers
+pub mod Whole

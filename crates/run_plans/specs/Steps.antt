@@ -1,0 +1,64 @@
+-- The steps of access chains, taken by types.
+use Rattle.std.specs.Prelude.{◌≡◌, ℕ, ◌+◌, ◌/◌, ◌%◌, Bool, true, false, List, ◌∷◌, ◌++◌, Some}
+use Rattle.spirv_words.specs.declared.images.Instruction.{Instruction}
+use Rattle.spirv_words.specs.Machine.{Shape, if_some}
+use Rattle.spirv_words.specs.Runs.{signed}
+use Rattle.flat_values.specs.Flat.{width}
+use Rattle.run_actions.specs.declared.actions.Extent.{Extent}
+use Rattle.run_actions.specs.declared.actions.Index.{Index}
+use Rattle.action_laws.specs.Paths.{Item, Planned, Plan, NoPlan, plan, buffer_plan, moved, stepped}
+use Rattle.image_facts.specs.Operands.{globals_of, shape}
+use Rattle.run_rooms.specs.Rooms.{Rooms}
+use Rattle.run_plans.specs.declared.steps.Step.{Step}
+use Rattle.run_plans.specs.declared.steps.Step.TheVariants.{Member, Element}
+use Rattle.run_plans.specs.Actions.{items}
+
+-- in a buffer or in a variable
+abbrev pub planned : Bool → Shape → List Item → Planned
+planned true s items = buffer_plan s items
+planned false s items = plan s items
+
+abbrev pub after_step : Step → Planned → Planned
+after_step (Member offset type) p = moved offset p
+after_step (Element index type) p = stepped index p
+
+abbrev pub type_behind : Step → ℕ
+type_behind (Member offset type) = type
+type_behind (Element index type) = type
+
+-- a step leads where an index leads in a shape
+pub record IsStepOf (code : List Instruction) (L : Rooms) (in_buffer : Bool) (s : Shape) (index : ℕ) (step : Step) : Type 0 where
+  pub form : Shape
+  pub is : shape code (type_behind step) ≡ Some form
+  pub goes : (is : List ℕ) → planned in_buffer s (items code L s (index ∷ is)) ≡ after_step step (planned in_buffer form (items code L form is))
+
+-- the same in the shape of a type
+abbrev pub IsStep : List Instruction → Rooms → Bool → ℕ → ℕ → Step → Type 0
+IsStep code L in_buffer t index step = (s : Shape) → shape code t ≡ Some s → IsStepOf code L in_buffer s index step
+
+-- how far elements of a type are apart, whose stride is so many bytes
+abbrev pub IsStrideOf : List Instruction → Bool → ℕ → ℕ → ℕ → Type 0
+IsStrideOf code true of bytes n = (bytes % 4 ≡ 0) × (n ≡ bytes / 4)
+IsStrideOf code false of bytes n = n ≡ if_some (shape code of) 0 width
+
+-- a step to the element of a type that an id chooses
+pub record IsElementStep (code : List Instruction) (L : Rooms) (in_buffer : Bool) (of : ℕ) (extent : Extent) (bytes id : ℕ) (step : Step) : Type 0 where
+  pub stride : ℕ
+  pub far : IsStrideOf code in_buffer of bytes stride
+  pub is : step ≡ Element (record { slot = L.slot id; extent = extent; stride = stride; signed = signed code (globals_of code) id }) of
+
+-- behind an offset and steps
+abbrev pub behind : ℕ → List Index → Planned → Planned
+behind offset steps (Plan o more of) = Plan (offset + o) (steps ++ more) of
+behind offset steps NoPlan = NoPlan
+
+-- indices lead from a type's shape by an offset and steps
+abbrev pub IsWalk : List Instruction → Rooms → Bool → ℕ → List ℕ → ℕ → List Index → Type 0
+IsWalk code L in_buffer t is offset steps =
+    (s : Shape) → shape code t ≡ Some s → (of : Shape) × (planned in_buffer s (items code L s is) ≡ Plan offset steps of)
+
+-- so far by an offset and steps to a type, from which these indices are still to go
+pub record IsWalked (code : List Instruction) (L : Rooms) (in_buffer : Bool) (s : Shape) (is : List ℕ) (offset : ℕ) (steps : List Index) (t : ℕ) (rest : List ℕ) : Type 0 where
+  pub form : Shape
+  pub is_form : shape code t ≡ Some form
+  pub goes : planned in_buffer s (items code L s is) ≡ behind offset steps (planned in_buffer form (items code L form rest))

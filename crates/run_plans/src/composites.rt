@@ -1,0 +1,88 @@
+// Composites that are made of parts, and parts that are taken out of them.
+
+ghost use Rattle.std.specs.Prelude.{◌≡◌, [], IfOk};
+ghost use Rattle.run_rooms.specs.Rooms.{slot_size};
+ghost use Rattle.run_plans.specs.Ground.{rooms_of};
+ghost use Rattle.run_plans.specs.Actions.{gathered, extract_of};
+ghost use Rattle.run_plans.specs.Walks.{IsOfValid, IsPath};
+
+use crate::base::Ground;
+use crate::parts::{Part, part_with, size_of, slot_size, sum};
+use run_actions::{Action, Move};
+use sqlite_items::Items;
+use std::alloc::{AllocError, Global};
+
+/// The words of an id, copied to a place.
+pub fn move_of(places: &Ground, id: u32, to: u32) -> Result<Move, AllocError>
+    ensures { IfOk result (λ m. m ≡ record { from = (rooms_of places.now).slot id; to = to; count = slot_size places.now.places.code id }) }
+{
+    let count = slot_size(places, id)?;
+    Ok(Move {
+        from: places.slot(id),
+        to,
+        count,
+    })
+}
+
+/// The words of values, one behind the other from a place on.
+pub fn gathered(
+    alloc: Global,
+    places: &Ground,
+    values: &[u32],
+    to: u32,
+) -> Result<Items<Move>, AllocError>
+    ensures { IfOk result (λ parts. parts ≡ gathered places.now.places.code (rooms_of places.now) values.now to) }
+{
+    let mut parts = Vec::new(alloc);
+    let mut at = to;
+    for value in values {
+        let part = move_of(places, *value, at)?;
+        at = sum(at, part.count)?;
+        parts.push(part)?;
+    }
+    Ok(Items::from_vec(parts))
+}
+
+/// The part of a type's values to which a path of numbers leads.
+fn part_behind(places: &Ground, type_id: u32, path: &[u32]) -> Result<Part, AllocError>
+    requires valid { IsOfValid places.now.places.code }
+    ensures { IfOk result (λ part. IsPath places.now.places.code type_id path.now part.type_id part.place) }
+{
+    let mut at = Part { type_id, place: 0 };
+    for number in path {
+        let part = part_with(places, at.type_id, *number)?;
+        at = Part {
+            type_id: part.type_id,
+            place: sum(at.place, part.place)?,
+        };
+    }
+    Ok(at)
+}
+
+/// The action that takes a part out of a composite.
+pub fn extract_of(
+    places: &Ground,
+    type_id: u32,
+    to: u32,
+    composite: u32,
+    path: &[u32],
+) -> Result<Action, AllocError>
+    requires valid { IsOfValid places.now.places.code }
+    ensures { IfOk result (λ action. action ≡ extract_of places.now.places.code (rooms_of places.now) type_id to composite path.now) }
+{
+    let declarations = places.declarations();
+    let whole = declarations.operand(composite, 0);
+    if !declarations.is_data(whole) {
+        return Err(AllocError);
+    }
+    let part = part_behind(places, whole, path)?;
+    let from = sum(places.slot(composite), part.place)?;
+    let count = size_of(places, type_id)?;
+    Ok(Action::Copy {
+        part: Move {
+            from,
+            to: places.slot(to),
+            count,
+        },
+    })
+}

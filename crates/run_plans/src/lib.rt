@@ -1,0 +1,20 @@
+//! From a valid image to the actions of its instructions, and to the words with which a run begins.
+#![tactic(auto)]
+
+mod actions;
+mod base;
+mod buffers;
+mod calls;
+mod chains;
+mod composites;
+mod kinds;
+mod parts;
+mod plan;
+mod steps;
+#[cfg(test)]
+mod tests;
+mod words;
+
+pub use base::Bound;
+pub use kinds::{Kind, kind_of};
+pub use plan::{Plan, plan_of};
