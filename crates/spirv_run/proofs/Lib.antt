@@ -1,0 +1,14 @@
+pub mod Playing
+pub mod OneDispatch
+pub mod Memories
+pub mod Moving
+pub mod Bindings
+pub mod Stepping
+pub mod FirstWords
+pub mod Taken
+pub mod Words
+pub mod Running
+pub mod UnderWay
+pub mod Finishing
+pub mod Answering
+pub mod Ends

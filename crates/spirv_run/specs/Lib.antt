@@ -1,0 +1,5 @@
+pub mod Shared
+pub mod Dispatch
+pub mod Machines
+pub mod Parts
+pub mod Going

@@ -1,0 +1,10 @@
+// What a step gives.
+
+/// Whether an invocation goes on after a step.
+#[derive(Clone, Copy, PartialEq, Eq, Debug)]
+pub enum Turn {
+    Going,
+    Ended,
+    /// It did what is undefined.
+    Undefined,
+}
