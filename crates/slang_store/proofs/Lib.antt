@@ -1,2 +1,3 @@
 -- Lemmas that the answers cite.
 pub mod Storing
+pub mod FoundUnder

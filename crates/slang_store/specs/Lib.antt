@@ -3,3 +3,4 @@ pub mod Contents
 pub mod Answers
 pub mod Held
 pub mod Room
+pub mod Finds

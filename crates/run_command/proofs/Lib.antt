@@ -1,0 +1,5 @@
+pub mod Results
+pub mod Requested
+pub mod Held
+pub mod Stops
+pub mod OneRun

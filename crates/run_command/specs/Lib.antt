@@ -1,0 +1,4 @@
+pub mod Requests
+pub mod Files
+pub mod Answers
+pub mod Views
