@@ -2,10 +2,10 @@
 use Rattle.std.proofs.Common.{◌≡◌, ◌≢◌, ◌⊎◌, inl, inr, ⊎_elim, ℕ, ◌≤◌, List, [], ◌++◌, Option, Some, None, refl, sym, ap, ◌∙◌, subst, append-nil, arith}
 use Rattle.slang_store.specs.Contents.{Contents, with_entry, Partly, IsPrefixOf}
 use Rattle.slang_store.specs.Counts.{Rose}
-use Rattle.slang_cli.specs.declared.outcome.Outcome.{Outcome}
-use Rattle.slang_cli.specs.declared.outcome.Outcome.TheVariants.{Done, ModuleRefused, LinkRefused, Words, ReadFault, WriteFault, Memory, Undefined, Budget, Absent, FormRefused, ImageRefused, InputRefused}
-use Rattle.slang_cli.specs.Commands.{Request}
-use Rattle.slang_cli.specs.Lines.{refusal_line}
+use Rattle.slang_outcomes.specs.declared.outcome.Outcome.{Outcome}
+use Rattle.slang_outcomes.specs.declared.outcome.Outcome.TheVariants.{Done, ModuleRefused, LinkRefused, Words, ReadFault, WriteFault, Memory, Undefined, Budget, Absent, FormRefused, ImageRefused, InputRefused}
+use Rattle.slang_cli.specs.Commands.{Request, asked, asked_of}
+use Rattle.slang_outcomes.specs.Lines.{refusal_line}
 use Rattle.slang_cli.specs.Answers.{Answer, Refuses, Puts, IsAnswer, outcome_of, printed, contents_after}
 use Rattle.slang_cli.specs.Outside.{FilesNow, SinkNow, TookAll, TookPart, IsHalt, IsReal, IsTheAnswer, Runs, halted, answered, cut}
 use Rattle.slang_cli.specs.Calls.{WhereSettled, WhereRefused, Answered, PutInPart, MayHold, IsLine}
@@ -87,7 +87,7 @@ halt_unsettled c f g (FormRefused x y z) P h = absurd h
 halt_unsettled c f g (ImageRefused x y) P h = absurd h
 halt_unsettled c f g (InputRefused x) P h = absurd h
 
-halt_line : (c : Option Request) (f g : FilesNow) (m : Contents) (s : Outcome) → IsHalt c f g s → IsLine c m (refusal_line s)
+halt_line : (c : Option Request) (f g : FilesNow) (m : Contents) (s : Outcome) → IsHalt c f g s → IsLine c m (refusal_line (asked_of c) s)
 halt_line None f g m Done h = absurd h
 halt_line None f g m (ModuleRefused x y z) h = absurd h
 halt_line None f g m (LinkRefused x) h = absurd h
@@ -160,9 +160,9 @@ unreal s t e h never = absurd (never (subst (λ (x : Outcome). IsReal x) e h))
 pub runs_before : (c : Option Request) (f f1 g : FilesNow) (o n : SinkNow) {result : Outcome} → f1.contents ≡ f.contents → f1.puts ≡ f.puts → f.reads ≤ f1.reads → Runs c f1 g o n result → Runs c f g o n result
 runs_before c f f1 g o n same puts le (halted status h stays p) = halted status (halt_before c f f1 g status le h) (stays ∙ same) p
 runs_before c f f1 g o n same puts le (answered command a is_c is after p) =
-    answered command a is_c (record { is = λ m told. is.is m (same ∙ told); real = is.real }) (λ m told. after m (same ∙ told)) p
+    answered command a is_c (record { is = λ m told. is.is m (same ∙ told); real = is.real; told = λ m told. is.told m (same ∙ told) }) (λ m told. after m (same ∙ told)) p
 runs_before c f f1 g o n same puts le (cut command name bytes line is_c is partly rose taken) =
-    cut command name bytes line is_c (record { is = λ m told. is.is m (same ∙ told); real = is.real }) (λ m told. partly m (same ∙ told)) (subst (λ (k : ℕ). Rose k g.puts) puts rose) taken
+    cut command name bytes line is_c (record { is = λ m told. is.is m (same ∙ told); real = is.real; told = λ m told. is.told m (same ∙ told) }) (λ m told. partly m (same ∙ told)) (subst (λ (k : ℕ). Rose k g.puts) puts rose) taken
 
 -- ---- the clauses
 
@@ -219,7 +219,7 @@ answer c f g o n m request (answered command a is_c is after p) told e =
       is = subst (λ (x : Request). IsAnswer x m a) same (is.is m told);
       status_is = refl;
       files = after m told;
-      line = all.0;
+      line = subst (λ (x : Request). TookAll o n (printed x a)) same all.0;
     })))
     (λ part. subst P (sym part.1) tt)
     p
@@ -250,32 +250,33 @@ put_in_part c f g o n m (cut command name bytes line is_c is partly rose taken) 
     let x : PutInPart command m g.contents = record { name = name; bytes = bytes; line = line; is = is.is m told; left = left.0; files = left.1; partly = left.2 } in
     subst (λ (x : Option Request). MayHold x m g.contents) (sym is_c) (inr x)
 
-refused_of : (a : Answer) (b : List ℕ) (n : Option (List ℕ)) → n ≡ Some (b ++ printed a) → WhereRefused (outcome_of a) (n ≡ Some (b ++ refusal_line (outcome_of a)))
-refused_of (Refuses status) b n e = where_refused status (n ≡ Some (b ++ refusal_line status)) e
-refused_of (Puts name bytes line) b n e = tt
+refused_of : (c : Request) (a : Answer) (b : List ℕ) (n : Option (List ℕ)) → n ≡ Some (b ++ printed c a) → WhereRefused (outcome_of a) (n ≡ Some (b ++ refusal_line (asked c) (outcome_of a)))
+refused_of c (Refuses status) b n e = where_refused status (n ≡ Some (b ++ refusal_line (asked c) status)) e
+refused_of c (Puts name bytes line) b n e = tt
 
-pub whole_line : (c : Option Request) (f g : FilesNow) (o n : SinkNow) (b : List ℕ) {result : Outcome} → Runs c f g o n result → o.bytes ≡ Some b → WhereRefused result (n.bytes ≡ Some (b ++ refusal_line result))
+pub whole_line : (c : Option Request) (f g : FilesNow) (o n : SinkNow) (b : List ℕ) {result : Outcome} → Runs c f g o n result → o.bytes ≡ Some b → WhereRefused result (n.bytes ≡ Some (b ++ refusal_line (asked_of c) result))
 whole_line c f g o n b (halted status h stays p) told =
-    let P : Outcome → Type 0 = λ s. WhereRefused s (n.bytes ≡ Some (b ++ refusal_line s)) in
-    ⊎_elim (λ all. subst P (sym all.1) (where_refused status (n.bytes ≡ Some (b ++ refusal_line status)) (all.0.bytes b told))) (λ part. subst P (sym part.1) tt) p
+    let P : Outcome → Type 0 = λ s. WhereRefused s (n.bytes ≡ Some (b ++ refusal_line (asked_of c) s)) in
+    ⊎_elim (λ all. subst P (sym all.1) (where_refused status (n.bytes ≡ Some (b ++ refusal_line (asked_of c) status)) (all.0.bytes b told))) (λ part. subst P (sym part.1) tt) p
 whole_line c f g o n b (answered command a is_c is after p) told =
-    let P : Outcome → Type 0 = λ s. WhereRefused s (n.bytes ≡ Some (b ++ refusal_line s)) in
-    ⊎_elim (λ all. subst P (sym all.1) (refused_of a b n.bytes (all.0.bytes b told))) (λ part. subst P (sym part.1) tt) p
+    let P : Outcome → Type 0 = λ s. WhereRefused s (n.bytes ≡ Some (b ++ refusal_line (asked_of c) s)) in
+    let Q : Option Request → Type 0 = λ x. WhereRefused (outcome_of a) (n.bytes ≡ Some (b ++ refusal_line (asked_of x) (outcome_of a))) in
+    ⊎_elim (λ all. subst P (sym all.1) (subst Q (sym is_c) (refused_of command a b n.bytes (all.0.bytes b told)))) (λ part. subst P (sym part.1) tt) p
 whole_line c f g o n b (cut command name bytes line is_c is partly rose taken) told = tt
 
 pub part_of_line : (c : Option Request) (f g : FilesNow) (o n : SinkNow) (m : Contents) (b : List ℕ) {result : Outcome} → Runs c f g o n result → f.contents ≡ Some m → o.bytes ≡ Some b → result ≡ WriteFault → (line p : List ℕ) × IsLine c m line × IsPrefixOf p line × (n.bytes ≡ Some (b ++ p))
 part_of_line c f g o n m b (halted status h stays p) told took e =
     ⊎_elim
     (λ all. absurd (halt_write c f g (subst (λ (s : Outcome). IsHalt c f g s) (sym all.1 ∙ e) h)))
-    (λ part. let x = part.0.bytes b took in (refusal_line status, x.0, halt_line c f g m status h, x.1, x.2))
+    (λ part. let x = part.0.bytes b took in (refusal_line (asked_of c) status, x.0, halt_line c f g m status h, x.1, x.2))
     p
 part_of_line c f g o n m b (answered command a is_c is after p) told took e =
     ⊎_elim
     (λ all. unreal (outcome_of a) WriteFault (sym all.1 ∙ e) is.real (λ x. x))
     (λ part.
     let x = part.0.bytes b took in
-    let line : IsLine (Some command) m (printed a) = inl (a, is.is m told, refl) in
-    (printed a, x.0, subst (λ (x : Option Request). IsLine x m (printed a)) (sym is_c) line, x.1, x.2))
+    let line : IsLine (Some command) m (printed command a) = inl (a, is.is m told, refl) in
+    (printed command a, x.0, subst (λ (x : Option Request). IsLine x m (printed command a)) (sym is_c) line, x.1, x.2))
     p
 part_of_line c f g o n m b (cut command name bytes line is_c is partly rose taken) told took e =
     let is_line : IsLine (Some command) m line = inl (Puts name bytes line, is.is m told, refl) in

@@ -6,10 +6,10 @@ use Rattle.std.specs.declared.alloc.AllocError.{AllocError}
 use Rattle.slang_store.specs.Answers.{OnFailed, OnMemory}
 use Rattle.slang_store.specs.Contents.{Contents, with_entry, Partly}
 use Rattle.slang_store.specs.Counts.{Rose}
-use Rattle.slang_cli.specs.declared.outcome.Outcome.{Outcome}
-use Rattle.slang_cli.specs.declared.outcome.Outcome.TheVariants.{Done, WriteFault}
-use Rattle.slang_cli.specs.Commands.{Request}
-use Rattle.slang_cli.specs.Lines.{refusal_line}
+use Rattle.slang_outcomes.specs.declared.outcome.Outcome.{Outcome}
+use Rattle.slang_outcomes.specs.declared.outcome.Outcome.TheVariants.{Done, WriteFault}
+use Rattle.slang_cli.specs.Commands.{Request, asked}
+use Rattle.slang_outcomes.specs.Lines.{refusal_line}
 use Rattle.slang_cli.specs.Answers.{Answer, Refuses, Puts}
 use Rattle.slang_cli.specs.Outside.{FilesNow, SinkNow, Prints, IsTheAnswer, Runs, answered, cut}
 
@@ -23,7 +23,7 @@ memory_is {T = T} r e P is h = subst (λ (r : Result T FileFault). OnMemory r P)
 pub prints_line : (o n : SinkNow) (status result : Outcome) (a b : List ℕ) → a ≡ b → Prints o n status a result → Prints o n status b result
 prints_line o n status result a b e h = subst (λ (l : List ℕ). Prints o n status l result) e h
 
-pub refused_runs : (c : Request) (f : FilesNow) (o n : SinkNow) (status result : Outcome) → IsTheAnswer c f (Refuses status) → Prints o n status (refusal_line status) result → Runs (Some c) f f o n result
+pub refused_runs : (c : Request) (f : FilesNow) (o n : SinkNow) (status result : Outcome) → IsTheAnswer c f (Refuses status) → Prints o n status (refusal_line (asked c) status) result → Runs (Some c) f f o n result
 refused_runs c f o n status result is prints = answered c (Refuses status) refl is (λ m told. told) prints
 
 pub put_runs : (c : Request) (f g : FilesNow) (o n : SinkNow) (name bytes line : List ℕ) (result : Outcome) → IsTheAnswer c f (Puts name bytes line) → ((m : Contents) → f.contents ≡ Some m → g.contents ≡ Some (with_entry m name bytes)) → Prints o n Done line result → Runs (Some c) f g o n result

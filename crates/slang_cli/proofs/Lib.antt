@@ -2,8 +2,8 @@ pub mod Parsing
 pub mod Named
 pub mod Statements
 pub mod Results
+pub mod Told
 pub mod Compiled
-pub mod FoundText
 pub mod Delivery
 pub mod Carried
 pub mod Called

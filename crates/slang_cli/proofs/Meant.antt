@@ -1,36 +1,42 @@
 -- From the command's answer to what the words that are put mean.
-use Rattle.std.proofs.Common.{◌≡◌, ℕ, ◌≤◌, List, length, Option, Some, refl, sym, subst}
+use Rattle.std.proofs.Common.{◌≡◌, ◌⊎◌, ⊎_elim, ℕ, ◌≤◌, List, length, Option, Some, None, refl, sym, ◌∙◌, subst}
 use Rattle.behavior.specs.Meanings.{Agree}
 use Rattle.slang_tree.specs.declared.names.Ref.{Ref}
 use Rattle.slang_store.specs.Contents.{Contents, with_entry}
 use Rattle.spirv_words.specs.Strings.{IsText}
 use Rattle.spirv_words.specs.Words.{CanBeSpelled, image_words}
 use Rattle.spirv_words.specs.Runs.{words}
+use Rattle.spirv_check.specs.Valid.{Valid}
 use Rattle.first_form.specs.declared.shader.Shader.{Shader}
 use Rattle.first_form.specs.Shaders.{IsShader}
 use Rattle.first_image.specs.Source.{source}
 use Rattle.first_image.specs.Image.{image_of}
-use Rattle.slang_cli.specs.declared.outcome.Outcome.{Outcome}
-use Rattle.slang_cli.specs.declared.outcome.Outcome.TheVariants.{Done}
+use Rattle.slang_outcomes.specs.declared.outcome.Outcome.{Outcome}
+use Rattle.slang_outcomes.specs.declared.outcome.Outcome.TheVariants.{Done, WriteFault}
 use Rattle.slang_cli.specs.Commands.{Request, Compile}
-use Rattle.slang_cli.specs.Answers.{Answer, Compiles, absent, too_long, not_yet, no_entry, puts, outcome_of, contents_after}
-use Rattle.slang_cli.specs.Outside.{FilesNow, SinkNow, Runs}
-use Rattle.slang_cli.specs.Calls.{WhereSettled, Answered, Means}
-use Rattle.slang_cli.proofs.Clauses.{answer}
+use Rattle.slang_cli.specs.Answers.{Answer, Compiles, absent, too_long, not_yet, no_entry, puts, IsAnswer, IsTold, ImageIsTold, IfPuts, outcome_of, contents_after}
+use Rattle.slang_cli.specs.Outside.{FilesNow, SinkNow, IsHalt, Runs, halted, answered, cut}
+use Rattle.slang_cli.specs.Calls.{Means}
+use Rattle.slang_cli.proofs.Told.{read_again}
 
 -- what the layers below say of images and of files
 pub record Laws : Type 0 where
   pub agree : (home : List ℕ) (shader : Shader) → Agree (source shader) (words (image_of home shader))
   pub spelled : (home : List ℕ) (shader : Shader) → IsText home → length home ≤ 64 → IsShader shader → CanBeSpelled (image_of home shader)
+  pub valid : (home : List ℕ) (shader : Shader) → IsText home → length home ≤ 64 → IsShader shader → Valid (image_of home shader)
   pub here : (m : Contents) (name bytes : List ℕ) → with_entry m name bytes name ≡ Some bytes
 
+halt_done : (c : Option Request) (f g : FilesNow) → IsHalt c f g Done → ⊥
+halt_done None f g h = h
+halt_done (Some c) f g h = h
+
 module _ (laws : Laws) (m : Contents) (entry : Ref) (image home : List ℕ) (text : IsText home) (short : length home ≤ 64) where
-  compiled_means : {a : Answer} → Compiles m entry image home a → outcome_of a ≡ Done → Means entry image home m (contents_after m a)
-  compiled_means (absent p) e = absurd cc
-  compiled_means (too_long p l) e = absurd cc
-  compiled_means (not_yet p l f) e = absurd cc
-  compiled_means (no_entry p l f n) e = absurd cc
-  compiled_means (puts {text = t} {shader = s} p l f is_entry) e = record {
+  compiled_means : {a : Answer} → Compiles m entry image home a → IfPuts a (ImageIsTold m home) → outcome_of a ≡ Done → Means entry image home m (contents_after m a)
+  compiled_means (absent p) told e = absurd cc
+  compiled_means (too_long p l) told e = absurd cc
+  compiled_means (not_yet p l f) told e = absurd cc
+  compiled_means (no_entry p l f n) told e = absurd cc
+  compiled_means (puts {text = t} {shader = s} p l f is_entry) told e = record {
     text = t;
     shader = s;
     made = image_of home s;
@@ -41,11 +47,22 @@ module _ (laws : Laws) (m : Contents) (entry : Ref) (image home : List ℕ) (tex
     made_is = refl;
     put = laws.here m image _;
     spelled = record { can_be = laws.spelled home s text short f.is_shader; are = refl };
+    read_again = record { words = read_again home s (told t s p f) (laws.spelled home s text short f.is_shader); valid = laws.valid home s text short f.is_shader };
     agree = laws.agree home s;
   }
 
+  told_of : (c : Option Request) (f g : FilesNow) (o n : SinkNow) {result : Outcome} → Runs c f g o n result → f.contents ≡ Some m → c ≡ Some (Compile entry image home) → result ≡ Done
+      → (a : Answer) × (Compiles m entry image home a) × IfPuts a (ImageIsTold m home) × (outcome_of a ≡ Done) × (g.contents ≡ Some (contents_after m a))
+  told_of c f g o n (halted status h stays p) told e done =
+      ⊎_elim (λ all. absurd (halt_done c f g (subst (λ (s : Outcome). IsHalt c f g s) (sym all.1 ∙ done) h))) (λ part. absurd (let x : Done ≡ WriteFault = sym done ∙ part.1 in cc)) p
+  told_of c f g o n (answered command a is_c is after p) told e done =
+      let same : command ≡ Compile entry image home = (let x = sym is_c ∙ e in cc) in
+      let is_a : IsAnswer (Compile entry image home) m a = subst (λ (x : Request). IsAnswer x m a) same (is.is m told) in
+      let told_a : IfPuts a (IsTold (Compile entry image home) m) = subst (λ (x : Request). IfPuts a (IsTold x m)) same (is.told m told) in
+      ⊎_elim (λ all. (a, is_a, told_a, sym all.1 ∙ done, after m told)) (λ part. absurd (let x : Done ≡ WriteFault = sym done ∙ part.1 in cc)) p
+  told_of c f g o n (cut command name bytes line is_c is partly rose taken) told e done = absurd cc
+
   pub meant : (c : Option Request) (f g : FilesNow) (o n : SinkNow) {result : Outcome} → Runs c f g o n result → f.contents ≡ Some m → c ≡ Some (Compile entry image home) → result ≡ Done → (after : Contents) × (g.contents ≡ Some after) × Means entry image home m after
-  meant c f g o n {result = result} runs told e done =
-      let P : Outcome → Type 0 = λ s. WhereSettled s (Answered (Compile entry image home) m s g.contents o n) in
-      let a : Answered (Compile entry image home) m Done g.contents o n = subst P done (answer c f g o n m (Compile entry image home) runs told e) in
-      (contents_after m a.answer, a.files, compiled_means a.is (sym a.status_is))
+  meant c f g o n runs told e done =
+      let a = told_of c f g o n runs told e done in
+      (contents_after m a.0, a.4, compiled_means a.1 a.2 a.3)

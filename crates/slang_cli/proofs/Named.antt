@@ -5,7 +5,10 @@ use Rattle.std.specs.List.{list_all}
 use Rattle.slang_tree.specs.declared.names.Ref.{Ref}
 use Rattle.slang_tree.specs.Letters.{is_digit, is_word_byte, is_name}
 use Rattle.spirv_words.specs.Strings.{IsText}
-use Rattle.slang_cli.specs.Commands.{Request, Compile, is_short_name, is_file_name, entry_of, compile_of, command_of}
+use Rattle.command_words.specs.Words.{is_short_name, is_file_name}
+use Rattle.run_command.specs.Requests.{RunRequest, run_of}
+use Rattle.std.specs.Option.{option_map}
+use Rattle.slang_cli.specs.Commands.{Request, Compile, Run, entry_of, compile_of, compile_words, command_of}
 
 both : (a b : Bool) → (a && b) ≡ true → (a ≡ true) × (b ≡ true)
 both true b e = (refl, e)
@@ -45,12 +48,22 @@ home_of (Some x) image home entry image1 home1 e =
     let same : home ≡ home1 = (let s : Some (Compile x image home) ≡ Some (Compile entry image1 home1) = p.1 in cc) in
     subst (λ (h : List ℕ). IsTrue (is_short_name h)) same (both (is_file_name image) (is_short_name home) p.0).1
 
+compile_home : (words : List (List ℕ)) (entry : Ref) (image home : List ℕ) → compile_words words ≡ Some (Compile entry image home) → IsTrue (is_short_name home)
+compile_home [] entry image home e = absurd cc
+compile_home (a ∷ []) entry image home e = absurd cc
+compile_home (a ∷ b ∷ []) entry image home e = absurd cc
+compile_home (a ∷ b ∷ c ∷ []) entry image home e = home_of (entry_of a) b c entry image home e
+compile_home (a ∷ b ∷ c ∷ d ∷ more) entry image home e = absurd cc
+
+-- a compile has the verb of one
+is_compile : (b c : Bool) (x : Option Request) (r : Option RunRequest) (entry : Ref) (image home : List ℕ) → cond b x (cond c (option_map Run r) None) ≡ Some (Compile entry image home) → x ≡ Some (Compile entry image home)
+is_compile true c x r entry image home e = e
+is_compile false true x None entry image home e = absurd cc
+is_compile false true x (Some r) entry image home e = absurd cc
+is_compile false false x r entry image home e = absurd cc
+
 -- the module of a command has a short name
 pub command_home : (words : List (List ℕ)) (entry : Ref) (image home : List ℕ) → command_of words ≡ Some (Compile entry image home) → IsTrue (is_short_name home)
 command_home [] entry image home e = absurd cc
-command_home (a ∷ []) entry image home e = absurd cc
-command_home (a ∷ b ∷ []) entry image home e = absurd cc
-command_home (a ∷ b ∷ c ∷ []) entry image home e = absurd cc
-command_home (a ∷ b ∷ c ∷ d ∷ []) entry image home e =
-    home_of (entry_of b) c d entry image home (some_if (bytes_eq a (codes "compile")) (compile_of (entry_of b) c d) (Compile entry image home) e).1
-command_home (a ∷ b ∷ c ∷ d ∷ f ∷ more) entry image home e = absurd cc
+command_home (verb ∷ words) entry image home e =
+    compile_home words entry image home (is_compile (bytes_eq verb (codes "compile")) (bytes_eq verb (codes "run")) (compile_words words) (run_of words) entry image home e)

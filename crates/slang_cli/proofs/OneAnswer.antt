@@ -4,8 +4,10 @@ use Rattle.slang_tree.specs.declared.names.Ref.{Ref}
 use Rattle.slang_store.specs.Contents.{Contents}
 use Rattle.first_form.specs.declared.shader.Shader.{Shader}
 use Rattle.first_form.specs.Grammar.{FirstForm}
-use Rattle.slang_cli.specs.Commands.{Request, Compile, text_name}
-use Rattle.slang_cli.specs.Answers.{Answer, Compiles, absent, too_long, not_yet, no_entry, puts, IsAnswer, IsEntry, puts_image, text_limit}
+use Rattle.run_command.specs.Requests.{RunRequest}
+use Rattle.run_command.specs.Answers.{Came, Comes}
+use Rattle.slang_cli.specs.Commands.{Request, Compile, Run, text_name}
+use Rattle.slang_cli.specs.Answers.{Answer, Compiles, absent, too_long, not_yet, no_entry, puts, IsAnswer, RunAnswers, answer_of, IsEntry, puts_image, text_limit}
 
 -- a text is of the form of at most one shader
 abbrev OneShader : Type 0
@@ -59,5 +61,13 @@ module _ (one : OneShader) (m : Contents) (entry : Ref) (image home : List ℕ) 
   one_compiled _ _ (puts {shader = x} p l f e) (puts {shader = y} q k g d) =
       ap (λ (s : Shader). puts_image image home s) (shader_is one x y p q f g)
 
-pub one_answer : OneShader → (command : Request) (m : Contents) (a b : Answer) → IsAnswer command m a → IsAnswer command m b → a ≡ b
-one_answer one (Compile entry image home) m a b p q = one_compiled one m entry image home a b p q
+-- a run comes to one thing at most
+abbrev OneRun : Type 0
+OneRun = (m : Contents) (r : RunRequest) (a b : Came) → Comes m r a → Comes m r b → a ≡ b
+
+one_run_answer : OneRun → (m : Contents) (r : RunRequest) (a b : Answer) → RunAnswers m r a → RunAnswers m r b → a ≡ b
+one_run_answer one m r a b p q = p.2 ∙ (ap (λ (c : Came). answer_of r c) (one m r p.0 q.0 p.1 q.1) ∙ sym q.2)
+
+pub one_answer : OneShader → OneRun → (command : Request) (m : Contents) (a b : Answer) → IsAnswer command m a → IsAnswer command m b → a ≡ b
+one_answer shader run (Compile entry image home) m a b p q = one_compiled shader m entry image home a b p q
+one_answer shader run (Run r) m a b p q = one_run_answer run m r a b p q

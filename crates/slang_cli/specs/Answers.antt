@@ -1,5 +1,5 @@
 -- What the program answers, where memory and the outside hold.
-use Rattle.std.specs.Prelude.{◌≡◌, ◌≢◌, ◌⊎◌, ℕ, ◌<◌, ◌≤◌, List, [], ◌∷◌, length, Option, Some, None}
+use Rattle.std.specs.Prelude.{◌≡◌, ◌≢◌, ◌⊎◌, ℕ, ◌<◌, ◌≤◌, ◌^◌, All, List, [], ◌∷◌, length, Option, Some, None}
 use Rattle.std.specs.Fmt.{decimal}
 use Rattle.slang_tree.specs.declared.names.Ref.{Ref}
 use Rattle.slang_tree.specs.declared.codes.ModuleCode.TheVariants.{TooLong, NotYet}
@@ -10,10 +10,13 @@ use Rattle.spirv_words.specs.Bytes.{bytes_of_words}
 use Rattle.first_form.specs.declared.shader.Shader.{Shader}
 use Rattle.first_form.specs.Grammar.{FirstForm}
 use Rattle.first_image.specs.Image.{image_of}
-use Rattle.slang_cli.specs.declared.outcome.Outcome.{Outcome}
-use Rattle.slang_cli.specs.declared.outcome.Outcome.TheVariants.{Done, ModuleRefused, LinkRefused, Absent}
-use Rattle.slang_cli.specs.Commands.{Request, Compile, text_name}
-use Rattle.slang_cli.specs.Lines.{line, refusal_line}
+use Rattle.slang_outcomes.specs.declared.outcome.Outcome.{Outcome}
+use Rattle.slang_outcomes.specs.declared.outcome.Outcome.TheVariants.{Done, ModuleRefused, LinkRefused, Undefined, Budget, Absent, ImageRefused, InputRefused}
+use Rattle.run_command.specs.Requests.{RunRequest}
+use Rattle.run_command.specs.Answers.{Came, Comes}
+use Rattle.run_command.specs.Answers as came
+use Rattle.slang_cli.specs.Commands.{Request, Compile, Run, text_name, asked}
+use Rattle.slang_outcomes.specs.Lines.{line, refusal_line}
 
 -- a command is refused, with a status and its values, or it gives a file its bytes and prints a line
 pub data Answer : Type 0 where
@@ -24,9 +27,13 @@ abbrev pub outcome_of : Answer → Outcome
 outcome_of (Refuses status) = status
 outcome_of (Puts name bytes line) = Done
 
-abbrev pub printed : Answer → List ℕ
-printed (Refuses status) = refusal_line status
-printed (Puts name bytes line) = line
+-- the line of an answer, where this entry was asked for
+abbrev pub printed_for : List ℕ → Answer → List ℕ
+printed_for entry (Refuses status) = refusal_line entry status
+printed_for entry (Puts name bytes line) = line
+
+abbrev pub printed : Request → Answer → List ℕ
+printed command answer = printed_for (asked command) answer
 
 -- what the files hold afterwards
 abbrev pub contents_after : Contents → Answer → Contents
@@ -68,6 +75,48 @@ pub data Compiles (m : Contents) (entry : Ref) (image home : List ℕ) : Answer 
       FirstForm text shader → IsEntry entry home shader →
       Compiles m entry image home (puts_image image home shader)
 
+-- ---- that bytes tell words
+
+-- the words of a shader's image have 32 bits
+pub record HasNarrowWords (home : List ℕ) (shader : Shader) : Type 0 where
+  pub narrow : All (λ w. w < 2 ^ 32) (image_words (image_of home shader))
+
+-- and are no more than an image may have
+pub record HasToldWords (home : List ℕ) (shader : Shader) : Type 0 where
+  pub narrow : HasNarrowWords home shader
+  pub few : length (image_words (image_of home shader)) ≤ 4194304
+
+-- of the shader that the text of a module says
+abbrev pub ImageIsTold : Contents → List ℕ → Type 0
+ImageIsTold m home =
+    (text : List ℕ) (shader : Shader) → m (text_name home) ≡ Some text → FirstForm text shader → HasToldWords home shader
+
+abbrev pub IsTold : Request → Contents → Type 0
+IsTold (Compile entry image home) m = ImageIsTold m home
+IsTold (Run run) m = Unit {0}
+
+-- a fact of an answer that puts a file
+abbrev pub IfPuts : Answer → Type 0 → Type 0
+IfPuts (Refuses status) P = Unit {0}
+IfPuts (Puts name bytes line) P = P
+
+-- ---- the answers
+
+-- the answer of a run that comes to this: a refusal, or the buffers afterwards, with how many invocations there were and
+-- how many steps in all
+abbrev pub answer_of : RunRequest → Came → Answer
+answer_of r (came.Absent name) = Refuses (Absent name)
+answer_of r (came.ImageRefused place code) = Refuses (ImageRefused place code)
+answer_of r (came.InputRefused cause) = Refuses (InputRefused cause)
+answer_of r (came.Undefined invocation step) = Refuses (Undefined invocation step)
+answer_of r (came.Budget invocation) = Refuses (Budget invocation)
+answer_of r (came.Ran text invocations steps) = Puts r.out text (line (decimal invocations) (decimal steps ∷ []))
+
+-- the run comes to something, and this is its answer
+abbrev pub RunAnswers : Contents → RunRequest → Answer → Type 0
+RunAnswers m r answer = (came : Came) × Comes m r came × (answer ≡ answer_of r came)
+
 -- the answer to a command, over what the files hold
 abbrev pub IsAnswer : Request → Contents → Answer → Type 0
 IsAnswer (Compile entry image home) m answer = Compiles m entry image home answer
+IsAnswer (Run run) m answer = RunAnswers m run answer

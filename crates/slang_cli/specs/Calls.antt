@@ -1,20 +1,21 @@
 -- What a call of the program leaves.
-use Rattle.std.specs.Prelude.{◌≡◌, ◌⊎◌, ℕ, List, ◌++◌, Option, Some, None}
+use Rattle.std.specs.Prelude.{◌≡◌, ◌⊎◌, ℕ, List, [], ◌++◌, Option, Some, None}
 use Rattle.behavior.specs.Meanings.{Agree}
 use Rattle.slang_tree.specs.declared.names.Ref.{Ref}
 use Rattle.slang_store.specs.Contents.{Contents, Partly}
 use Rattle.spirv_words.specs.Words.{Spells}
 use Rattle.spirv_words.specs.Bytes.{bytes_of_words}
 use Rattle.spirv_words.specs.Runs.{words}
+use Rattle.run_command.specs.Files.{HoldsImage}
 use Rattle.first_form.specs.declared.shader.Shader.{Shader}
 use Rattle.first_form.specs.Grammar.{FirstForm}
 use Rattle.first_image.specs.Source.{source}
 use Rattle.first_image.specs.Image.{image_of}
 use Rattle.spirv_words.specs.declared.images.Image.{Image}
-use Rattle.slang_cli.specs.declared.outcome.Outcome.{Outcome}
-use Rattle.slang_cli.specs.declared.outcome.Outcome.TheVariants.{Done, ModuleRefused, LinkRefused, Words, ReadFault, WriteFault, Memory, Undefined, Budget, Absent, FormRefused, ImageRefused, InputRefused}
+use Rattle.slang_outcomes.specs.declared.outcome.Outcome.{Outcome}
+use Rattle.slang_outcomes.specs.declared.outcome.Outcome.TheVariants.{Done, ModuleRefused, LinkRefused, Words, ReadFault, WriteFault, Memory, Undefined, Budget, Absent, FormRefused, ImageRefused, InputRefused}
 use Rattle.slang_cli.specs.Commands.{Request, Compile, text_name}
-use Rattle.slang_cli.specs.Lines.{refusal_line}
+use Rattle.slang_outcomes.specs.Lines.{refusal_line}
 use Rattle.slang_cli.specs.Outside.{SinkNow, TookAll}
 use Rattle.slang_cli.specs.Answers.{Answer, Puts, IsAnswer, IsEntry, outcome_of, printed, contents_after}
 
@@ -37,7 +38,7 @@ pub record Answered (command : Request) (m : Contents) (status : Outcome) (n : O
   pub is : IsAnswer command m answer
   pub status_is : status ≡ outcome_of answer
   pub files : n ≡ Some (contents_after m answer)
-  pub line : TookAll before after (printed answer)
+  pub line : TookAll before after (printed command answer)
 
 -- after a failed put, or a line that failed behind a put: the name of what was to be put holds a part of it, from its
 -- first byte on, or all of it, or what it held
@@ -57,12 +58,12 @@ MayHold (Some command) m n = (n ≡ Some m) ⊎ PutInPart command m n
 
 -- a line that a call with this command may print: its answer's, or that of a fault or of want of memory
 abbrev pub IsLine : Option Request → Contents → List ℕ → Type 0
-IsLine None m line = line ≡ refusal_line Words
+IsLine None m line = line ≡ refusal_line [] Words
 IsLine (Some command) m line =
-    ((answer : Answer) × IsAnswer command m answer × (line ≡ printed answer)) ⊎ ((line ≡ refusal_line ReadFault) ⊎ (line ≡ refusal_line Memory))
+    ((answer : Answer) × IsAnswer command m answer × (line ≡ printed command answer)) ⊎ ((line ≡ refusal_line [] ReadFault) ⊎ (line ≡ refusal_line [] Memory))
 
 -- the words at the image do what the text means: the text says a shader with this entry, the image's file holds the bytes
--- of words that spell an image, and these words do what the shader does
+-- of words that spell an image, which is valid and is read from these bytes again, and these words do what the shader does
 pub record Means (entry : Ref) (image home : List ℕ) (m n : Contents) : Type 0 where
   pub text : List ℕ
   pub shader : Shader
@@ -74,4 +75,5 @@ pub record Means (entry : Ref) (image home : List ℕ) (m n : Contents) : Type 0
   pub made_is : made ≡ image_of home shader
   pub put : n image ≡ Some (bytes_of_words written)
   pub spelled : Spells written made
+  pub read_again : HoldsImage (bytes_of_words written) made
   pub agree : Agree (source shader) (words made)

@@ -1,28 +1,14 @@
 -- Which words after the program's name are a command.
-use Rattle.std.specs.Prelude.{ℕ, ◌+◌, Bool, ◌&&◌, ◌||◌, ◌==◌, not, nat_le, List, [], ◌∷◌, ◌++◌, length, take, drop, position, codes, Option, Some, None, if◌then◌else◌, bytes_eq}
-use Rattle.std.specs.List.{list_all}
+use Rattle.std.specs.Prelude.{ℕ, ◌+◌, ◌&&◌, ◌==◌, List, [], ◌∷◌, ◌++◌, take, drop, position, codes, Option, Some, None, if◌then◌else◌, bytes_eq}
+use Rattle.std.specs.Option.{option_map}
 use Rattle.slang_tree.specs.declared.names.Ref.{Ref}
-use Rattle.slang_tree.specs.Letters.{is_word_byte, is_name}
+use Rattle.command_words.specs.Words.{is_short_name, is_file_name}
+use Rattle.run_command.specs.Requests.{RunRequest, run_of}
 
--- compile M.F IMAGE M1: the entry F of the module M, the file of the image, and the module whose text is read
+-- compile M.F IMAGE M1: the entry F of the module M, the file of the image, and the module whose text is read; or run ..
 pub data Request : Type 0 where
   Compile : (entry : Ref) (image home : List ℕ) → Request
-
--- a name of at most 64 bytes
-abbrev pub is_short_name : List ℕ → Bool
-is_short_name word = is_name word && nat_le (length word) 64
-
--- letters, digits, `_`, `-` and `.`
-abbrev pub is_file_byte : ℕ → Bool
-is_file_byte b = is_word_byte b || b == 45 || b == 46
-
--- the folder itself, or the one around it
-abbrev pub is_folder : List ℕ → Bool
-is_folder word = bytes_eq word (codes ".") || bytes_eq word (codes "..")
-
--- a file of the folder: 1 to 255 such bytes
-abbrev pub is_file_name : List ℕ → Bool
-is_file_name word = list_all is_file_byte word && nat_le 1 (length word) && nat_le (length word) 255 && not (is_folder word)
+  Run : (run : RunRequest) → Request
 
 -- two names with a dot, which stands at the index
 abbrev pub names_at : List ℕ → Option ℕ → Option Ref
@@ -39,10 +25,29 @@ abbrev pub compile_of : Option Ref → List ℕ → List ℕ → Option Request
 compile_of None image home = None
 compile_of (Some entry) image home = if is_file_name image && is_short_name home then Some (Compile entry image home) else None
 
+-- the words behind `compile`
+abbrev pub compile_words : List (List ℕ) → Option Request
+compile_words (entry ∷ image ∷ home ∷ []) = compile_of (entry_of entry) image home
+compile_words words = None
+
+abbrev pub with_verb : List ℕ → List (List ℕ) → Option Request
+with_verb verb words =
+    if bytes_eq verb (codes "compile") then compile_words words
+    else (if bytes_eq verb (codes "run") then option_map Run (run_of words) else None)
+
 abbrev pub command_of : List (List ℕ) → Option Request
-command_of (verb ∷ entry ∷ image ∷ home ∷ []) = if bytes_eq verb (codes "compile") then compile_of (entry_of entry) image home else None
-command_of words = None
+command_of [] = None
+command_of (verb ∷ words) = with_verb verb words
 
 -- the file of a module's text
 abbrev pub text_name : List ℕ → List ℕ
 text_name home = home ++ codes ".slang"
+
+-- the entry that a run asks for
+abbrev pub asked : Request → List ℕ
+asked (Compile entry image home) = []
+asked (Run run) = run.entry
+
+abbrev pub asked_of : Option Request → List ℕ
+asked_of None = []
+asked_of (Some command) = asked command

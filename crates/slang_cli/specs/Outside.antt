@@ -2,11 +2,11 @@
 use Rattle.std.specs.Prelude.{◌≡◌, ◌⊎◌, ℕ, ◌≤◌, List, ◌++◌, Option, Some, None}
 use Rattle.slang_store.specs.Contents.{Contents, Partly, IsPrefixOf}
 use Rattle.slang_store.specs.Counts.{Rose}
-use Rattle.slang_cli.specs.declared.outcome.Outcome.{Outcome}
-use Rattle.slang_cli.specs.declared.outcome.Outcome.TheVariants.{Done, ModuleRefused, LinkRefused, Words, ReadFault, WriteFault, Memory, Undefined, Budget, Absent, FormRefused, ImageRefused, InputRefused}
-use Rattle.slang_cli.specs.Commands.{Request}
-use Rattle.slang_cli.specs.Lines.{refusal_line}
-use Rattle.slang_cli.specs.Answers.{Answer, Refuses, Puts, IsAnswer, outcome_of, printed, contents_after}
+use Rattle.slang_outcomes.specs.declared.outcome.Outcome.{Outcome}
+use Rattle.slang_outcomes.specs.declared.outcome.Outcome.TheVariants.{Done, ModuleRefused, LinkRefused, Words, ReadFault, WriteFault, Memory, Undefined, Budget, Absent, FormRefused, ImageRefused, InputRefused}
+use Rattle.slang_cli.specs.Commands.{Request, asked_of}
+use Rattle.slang_outcomes.specs.Lines.{refusal_line}
+use Rattle.slang_cli.specs.Answers.{Answer, Refuses, Puts, IsAnswer, IsTold, IfPuts, outcome_of, printed, contents_after}
 
 -- the files: what they hold, where it is told, and how many reads and puts failed
 pub record FilesNow : Type 0 where
@@ -52,13 +52,14 @@ IsReal status = Unit {0}
 pub record IsTheAnswer (c : Request) (f : FilesNow) (a : Answer) : Type 0 where
   pub is : (m : Contents) → f.contents ≡ Some m → IsAnswer c m a
   pub real : IsReal (outcome_of a)
+  pub told : (m : Contents) → f.contents ≡ Some m → IfPuts a (IsTold c m)
 
 -- how a call goes
 pub data Runs (c : Option Request) (f g : FilesNow) (o n : SinkNow) : Outcome → Type 0 where
-  halted : {result : Outcome} (status : Outcome) → IsHalt c f g status → g.contents ≡ f.contents → Prints o n status (refusal_line status) result →
+  halted : {result : Outcome} (status : Outcome) → IsHalt c f g status → g.contents ≡ f.contents → Prints o n status (refusal_line (asked_of c) status) result →
       Runs c f g o n result
   answered : {result : Outcome} (command : Request) (a : Answer) → c ≡ Some command → IsTheAnswer command f a →
-      ((m : Contents) → f.contents ≡ Some m → g.contents ≡ Some (contents_after m a)) → Prints o n (outcome_of a) (printed a) result →
+      ((m : Contents) → f.contents ≡ Some m → g.contents ≡ Some (contents_after m a)) → Prints o n (outcome_of a) (printed command a) result →
       Runs c f g o n result
   cut : (command : Request) (name bytes line : List ℕ) → c ≡ Some command → IsTheAnswer command f (Puts name bytes line) →
       ((m : Contents) → f.contents ≡ Some m → (left : Contents) × (g.contents ≡ Some left) × Partly m name bytes left) →

@@ -1,21 +1,26 @@
 // The call that does all that the program does.
 
-ghost use Rattle.std.specs.Prelude.{◌≡◌, ◌≤◌, Some, IfOk, IsErrOf, map, string_bytes};
+ghost use Rattle.std.specs.Prelude.{◌≡◌, ◌≤◌, Some, [], IfOk, IsErrOf, map, string_bytes};
 ghost use Rattle.slang_store.specs.Contents.{Contents};
 ghost use Rattle.slang_store.specs.Counts.{Rose};
+ghost use Rattle.run_command.specs.Views as run_view;
+ghost use Rattle.run_command.specs.Views.{IsBounded};
 ghost use Rattle.slang_cli.specs.Commands.{Request, text_name, command_of};
-ghost use Rattle.slang_cli.specs.Lines as lines;
-ghost use Rattle.slang_cli.specs.Answers.{printed, text_limit};
-ghost use Rattle.slang_cli.specs.Found.{FoundWithin, IsFound};
+ghost use Rattle.slang_cli.specs.Commands as request;
+ghost use Rattle.slang_outcomes.specs.Lines as lines;
+ghost use Rattle.slang_cli.specs.Answers.{printed, printed_for, text_limit};
+ghost use Rattle.slang_store.specs.Finds.{FoundWithin, IsFound};
 ghost use Rattle.slang_cli.specs.Outside.{Prints, IsTheAnswer, Runs};
 ghost use Rattle.slang_cli.specs.Views as view;
-ghost use Rattle.slang_cli.specs.Views.{IsNamed};
+ghost use Rattle.slang_cli.specs.Views.{IsNamed, IsSound};
 ghost use Rattle.slang_cli.specs.declared.answer.Halt.TheVariants.{Read};
 
-use crate::Outcome;
 use crate::answer::{Answer, Halt};
-use crate::command::{Compile, parse};
+use crate::command::{Command, Compile, parse};
 use crate::compile::{compile_found, text_file};
+use crate::runs::run_answer;
+use run_command::{Run, run};
+use slang_outcomes::Outcome;
 use slang_store::{FileFault, Files, Found, Sink, write_all};
 use slang_tree::limits;
 use std::alloc::Global;
@@ -51,12 +56,16 @@ fn report<S: Sink>(out: &mut S, status: Outcome, line: &[u8]) -> Outcome
     }
 }
 
-/// Carries a command out up to what is to be put and printed.
-fn carry_out<F: Files>(alloc: Global, files: &mut F, command: Compile<'_>) -> Result<Answer, Halt>
+/// Carries `compile` out up to what is to be put and printed.
+fn carry_compile<F: Files>(
+    alloc: Global,
+    files: &mut F,
+    command: Compile<'_>,
+) -> Result<Answer, Halt>
     requires { IsNamed command }
-    ensures answer { IfOk result (λ a. IsTheAnswer (view.command command.entry)
+    ensures answer { IfOk result (λ a. IsTheAnswer (view.compile command.entry)
         (record { contents = F.told files.old; reads = F.read_faults files.old; puts = F.put_faults files.old }) (view.answer a)) }
-    ensures line { IfOk result (λ a. view.line_of a ≡ printed (view.answer a)) }
+    ensures line { IfOk result (λ a. view.line_of a ≡ printed_for [] (view.answer a)) }
     ensures failed { IsErrOf result Read → Rose (F.read_faults files.old) (F.read_faults files.new) }
     ensures no_fault_lost { F.read_faults files.old ≤ F.read_faults files.new }
     ensures stays { F.told files.new ≡ F.told files.old }
@@ -76,10 +85,47 @@ fn carry_out<F: Files>(alloc: Global, files: &mut F, command: Compile<'_>) -> Re
     }
 }
 
+/// Carries `run` out up to what is to be put and printed.
+fn carry_run<F: Files>(alloc: Global, files: &mut F, command: Run<'_>) -> Result<Answer, Halt>
+    requires { IsBounded command }
+    ensures answer { IfOk result (λ a. IsTheAnswer (request.Run (run_view.request command.entry))
+        (record { contents = F.told files.old; reads = F.read_faults files.old; puts = F.put_faults files.old }) (view.answer a)) }
+    ensures line { IfOk result (λ a. view.line_of a ≡ printed_for command.entry.entry.now (view.answer a)) }
+    ensures failed { IsErrOf result Read → Rose (F.read_faults files.old) (F.read_faults files.new) }
+    ensures no_fault_lost { F.read_faults files.old ≤ F.read_faults files.new }
+    ensures stays { F.told files.new ≡ F.told files.old }
+    ensures puts_stay { F.put_faults files.new ≡ F.put_faults files.old }
+{
+    match run(alloc, files, command) {
+        Ok(came) => match run_answer(alloc, command, came) {
+            Ok(answer) => Ok(answer),
+            Err(_) => Err(Halt::Memory),
+        },
+        Err(FileFault::Failed) => Err(Halt::Read),
+        Err(FileFault::Memory(_)) => Err(Halt::Memory),
+    }
+}
+
+/// Carries a command out up to what is to be put and printed.
+fn carry_out<F: Files>(alloc: Global, files: &mut F, command: Command<'_>) -> Result<Answer, Halt>
+    requires { IsSound command }
+    ensures answer { IfOk result (λ a. IsTheAnswer (view.command command.entry)
+        (record { contents = F.told files.old; reads = F.read_faults files.old; puts = F.put_faults files.old }) (view.answer a)) }
+    ensures line { IfOk result (λ a. view.line_of a ≡ printed (view.command command.entry) (view.answer a)) }
+    ensures failed { IsErrOf result Read → Rose (F.read_faults files.old) (F.read_faults files.new) }
+    ensures no_fault_lost { F.read_faults files.old ≤ F.read_faults files.new }
+    ensures stays { F.told files.new ≡ F.told files.old }
+    ensures puts_stay { F.put_faults files.new ≡ F.put_faults files.old }
+{
+    match command {
+        Command::Compile(command) => carry_compile(alloc, files, command),
+        Command::Run(command) => carry_run(alloc, files, command),
+    }
+}
+
 /// Gives the file of an answer its bytes, and then prints the answer's line.
 fn deliver<F: Files, S: Sink>(files: &mut F, out: &mut S, answer: Answer) -> Outcome
-    requires { view.line_of answer ≡ printed (view.answer answer) }
-    ensures runs { (c : Request) → IsTheAnswer c
+    ensures runs { (c : Request) → view.line_of answer ≡ printed c (view.answer answer) → IsTheAnswer c
         (record { contents = F.told files.old; reads = F.read_faults files.old; puts = F.put_faults files.old }) (view.answer answer)
         → Runs (Some c)
         (record { contents = F.told files.old; reads = F.read_faults files.old; puts = F.put_faults files.old })

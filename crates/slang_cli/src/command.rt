@@ -1,12 +1,19 @@
 // The words of a command line.
 
 ghost use Rattle.std.specs.Prelude.{◌≡◌, ◌≤◌, ◌==◌, map, string_bytes, length, drop, position, bytes_eq, codes, IfSome};
-ghost use Rattle.std.specs.List.{list_all};
 ghost use Rattle.std.specs.Option.{option_map};
 ghost use Rattle.slang_cli.specs.Commands as spec;
-ghost use Rattle.slang_cli.specs.Views.{optional_command, IsNamed};
+ghost use Rattle.slang_cli.specs.Views.{optional_compile, optional_command, IsNamed, IsSound};
 
-use slang_tree::{is_name, is_word_byte, limits};
+use command_words::{is_file_name, is_short_name};
+use run_command::{Run, parse_run};
+
+/// A command with its words.
+#[derive(Clone, Copy)]
+pub enum Command<'a> {
+    Compile(Compile<'a>),
+    Run(Run<'a>),
+}
 
 /// What `compile MODULE.ENTRY IMAGE HOME` asks for, as parts of these words: to make the image of the entry from the
 /// text of the module `home`.
@@ -16,38 +23,6 @@ pub struct Compile<'a> {
     pub entry: &'a [u8],
     pub image: &'a [u8],
     pub home: &'a [u8],
-}
-
-fn is_short_name(word: &[u8]) -> bool
-    ensures { result ≡ spec.is_short_name word.now }
-{
-    is_name(word) && word.len() <= limits::NAME_BYTES
-}
-
-fn is_file_byte(b: u8) -> bool
-    ensures { result ≡ spec.is_file_byte b }
-{
-    is_word_byte(b) || b == b'-' || b == b'.'
-}
-
-fn are_file_bytes(word: &[u8]) -> bool
-    ensures { result ≡ list_all spec.is_file_byte word.now }
-{
-    word.iter().all(|b| is_file_byte(*b))
-}
-
-/// Whether the word is the folder itself, or the one around it.
-fn is_folder(word: &[u8]) -> bool
-    ensures { result ≡ spec.is_folder word.now }
-{
-    word == b".".as_slice() || word == b"..".as_slice()
-}
-
-/// Whether the word is a name of a file in the folder: 1 to 255 letters, digits, `_`, `-` and `.`, not `.` or `..`.
-fn is_file_name(word: &[u8]) -> bool
-    ensures { result ≡ spec.is_file_name word.now }
-{
-    are_file_bytes(word) && 1 <= word.len() && word.len() <= 255 && !is_folder(word)
 }
 
 fn dot_in(word: &[u8]) -> Option<usize>
@@ -82,32 +57,20 @@ fn entry_of(word: &[u8]) -> Option<(&[u8], &[u8])>
     }
 }
 
-/// The command that the words are, if they are one. It takes no memory.
-pub fn parse(words: &[String]) -> Option<Compile<'_>>
-    ensures command { optional_command result ≡ spec.command_of (map string_bytes words.now) }
-    ensures named { IfSome result IsNamed }
-{
-    if words.len() != 4 {
-        return None;
-    }
-    if !is_compile(words[0].as_bytes()) {
-        return None;
-    }
-    parse_compile(
-        words[1].as_bytes(),
-        words[2].as_bytes(),
-        words[3].as_bytes(),
-    )
-}
-
 fn is_compile(verb: &[u8]) -> bool
     ensures { result ≡ bytes_eq verb.now (codes "compile") }
 {
     verb == b"compile".as_slice()
 }
 
-fn parse_compile<'a>(entry: &'a [u8], image: &'a [u8], home: &'a [u8]) -> Option<Compile<'a>>
-    ensures command { optional_command result ≡ spec.compile_of (spec.entry_of entry.now) image.now home.now }
+fn is_run(verb: &[u8]) -> bool
+    ensures { result ≡ bytes_eq verb.now (codes "run") }
+{
+    verb == b"run".as_slice()
+}
+
+fn compile_of<'a>(entry: &'a [u8], image: &'a [u8], home: &'a [u8]) -> Option<Compile<'a>>
+    ensures command { optional_compile result ≡ spec.compile_of (spec.entry_of entry.now) image.now home.now }
     ensures named { IfSome result IsNamed }
 {
     let (module, entry) = entry_of(entry)?;
@@ -120,5 +83,51 @@ fn parse_compile<'a>(entry: &'a [u8], image: &'a [u8], home: &'a [u8]) -> Option
         })
     } else {
         None
+    }
+}
+
+/// What the words behind `compile` ask for, if they are a command.
+fn parse_compile(words: &[String]) -> Option<Compile<'_>>
+    ensures command { optional_compile result ≡ spec.compile_words (map string_bytes words.now) }
+    ensures named { IfSome result IsNamed }
+{
+    if words.len() != 3 {
+        return None;
+    }
+    compile_of(
+        words[0].as_bytes(),
+        words[1].as_bytes(),
+        words[2].as_bytes(),
+    )
+}
+
+/// The command of a verb and the words behind it.
+fn with_verb<'a>(verb: &[u8], words: &'a [String]) -> Option<Command<'a>>
+    ensures command { optional_command result ≡ spec.with_verb verb.now (map string_bytes words.now) }
+    ensures sound { IfSome result IsSound }
+{
+    if is_compile(verb) {
+        match parse_compile(words) {
+            Some(compile) => Some(Command::Compile(compile)),
+            None => None,
+        }
+    } else if is_run(verb) {
+        match parse_run(words) {
+            Some(run) => Some(Command::Run(run)),
+            None => None,
+        }
+    } else {
+        None
+    }
+}
+
+/// The command that the words are, if they are one. It takes no memory.
+pub fn parse(words: &[String]) -> Option<Command<'_>>
+    ensures command { optional_command result ≡ spec.command_of (map string_bytes words.now) }
+    ensures sound { IfSome result IsSound }
+{
+    match words {
+        [] => None,
+        [verb, rest @ ..] => with_verb(verb.as_bytes(), rest),
     }
 }

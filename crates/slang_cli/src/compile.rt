@@ -1,26 +1,26 @@
 // The command `compile`: from a module's text to the image of its entry.
 
-ghost use Rattle.std.specs.Prelude.{◌≡◌, ◌≤◌, ◌<◌, ◌^◌, ◌↔◌, ◌∷◌, [], Some, IfOk, length, IsTrue};
+ghost use Rattle.std.specs.Prelude.{◌≡◌, ◌≤◌, ◌<◌, ◌^◌, ◌↔◌, ◌∷◌, [], All, Some, IfOk, OnOk, length, IsTrue};
 ghost use Rattle.std.specs.Fmt.{decimal};
 ghost use Rattle.slang_store.specs.Contents.{Contents};
 ghost use Rattle.spirv_words.specs.Words.{image_words};
 ghost use Rattle.spirv_words.specs.Bytes.{bytes_of_words};
 ghost use Rattle.first_form.specs.Shaders.{IsShader};
 ghost use Rattle.first_image.specs.Image.{image_of};
-ghost use Rattle.slang_cli.specs.Commands.{text_name, is_short_name};
-ghost use Rattle.slang_cli.specs.Lines as lines;
-ghost use Rattle.slang_cli.specs.Answers.{Compiles, Refuses, Puts, printed, puts_image, text_limit, IsEntry, OfShader};
-ghost use Rattle.slang_cli.specs.declared.outcome.Outcome.TheVariants.{ModuleRefused, LinkRefused};
+ghost use Rattle.command_words.specs.Words.{is_short_name};
+ghost use Rattle.slang_cli.specs.Commands.{text_name};
+ghost use Rattle.slang_outcomes.specs.Lines as lines;
+ghost use Rattle.slang_cli.specs.Answers.{Compiles, Refuses, Puts, printed_for, puts_image, text_limit, IsEntry, OfShader, HasNarrowWords, ImageIsTold, IfPuts};
+ghost use Rattle.slang_outcomes.specs.declared.outcome.Outcome.TheVariants.{ModuleRefused, LinkRefused};
 ghost use Rattle.slang_tree.specs.declared.faults.LinkCause.TheVariants.{NoEntry};
-ghost use Rattle.slang_cli.specs.Found.{FoundWithin, IsFound};
+ghost use Rattle.slang_store.specs.Finds.{FoundWithin, IsFound};
 ghost use Rattle.slang_cli.specs.Views as view;
 
-use crate::Outcome;
-use crate::answer::{Answer, Halt};
-use crate::lines::{line, number, refusal_line};
-use first_form::{Shader, read_shader};
-use first_image::emit;
-use slang_store::{FileFault, Files, Found};
+use crate::answer::Answer;
+use first_form::{Shader, one_shader, read_shader};
+use first_image::{emit, image_is_short};
+use slang_outcomes::{Outcome, line, number, refusal_line};
+use slang_store::Found;
 use slang_tree::{LinkCause, ModuleCode, Name, Place, Ref, limits};
 use spirv_words::{to_bytes, write};
 use std::alloc::{AllocError, Global};
@@ -34,11 +34,11 @@ pub fn text_file(alloc: Global, home: &[u8]) -> Result<Name, AllocError>
     Ok(Name::new(name))
 }
 
-/// The refusal with its line.
-fn refuses(alloc: Global, status: Outcome) -> Result<Answer, AllocError>
-    ensures { IfOk result (λ a. (view.answer a ≡ Refuses status) × (view.line_of a ≡ lines.refusal_line status)) }
+/// The refusal with its line, where this entry was asked to be run.
+pub fn refuses(alloc: Global, entry: &[u8], status: Outcome) -> Result<Answer, AllocError>
+    ensures { IfOk result (λ a. (view.answer a ≡ Refuses status) × (view.line_of a ≡ lines.refusal_line entry.now status)) }
 {
-    let line = refusal_line(alloc, &status)?;
+    let line = refusal_line(alloc, entry, &status)?;
     Ok(Answer::Refuses { status, line })
 }
 
@@ -49,12 +49,13 @@ fn module_refused(
     code: ModuleCode,
 ) -> Result<Answer, AllocError>
     ensures { IfOk result (λ a. (view.answer a ≡ Refuses (ModuleRefused home.now (record { start = at; end = at }) code))
-        × (view.line_of a ≡ printed (view.answer a))) }
+        × (view.line_of a ≡ printed_for [] (view.answer a))) }
 {
     let module = Name::from_slice(alloc, home)?;
     let place = Place { start: at, end: at };
     refuses(
         alloc,
+        b"",
         Outcome::ModuleRefused {
             module,
             place,
@@ -65,13 +66,17 @@ fn module_refused(
 
 fn no_entry(alloc: Global, module: &[u8], entry: &[u8]) -> Result<Answer, AllocError>
     ensures { IfOk result (λ a. (view.answer a ≡ Refuses (LinkRefused (NoEntry (record { «module» = «module».now; path = entry.now }))))
-        × (view.line_of a ≡ printed (view.answer a))) }
+        × (view.line_of a ≡ printed_for [] (view.answer a))) }
 {
     let entry = Ref {
         module: Name::from_slice(alloc, module)?,
         path: Name::from_slice(alloc, entry)?,
     };
-    refuses(alloc, Outcome::LinkRefused(LinkCause::NoEntry { entry }))
+    refuses(
+        alloc,
+        b"",
+        Outcome::LinkRefused(LinkCause::NoEntry { entry }),
+    )
 }
 
 /// The words of a shader's image.
@@ -97,7 +102,8 @@ fn image_line(alloc: Global, image: &[u8], words: &[u32]) -> Result<Vec<u8>, All
 /// The words as the bytes of a file, with the line that tells how many there are.
 fn words_put(alloc: Global, image: &[u8], words: &[u32]) -> Result<Answer, AllocError>
     ensures puts { IfOk result (λ a. view.answer a ≡ Puts image.now (bytes_of_words words.now) (lines.line image.now (decimal (length words.now) ∷ []))) }
-    ensures line { IfOk result (λ a. view.line_of a ≡ printed (view.answer a)) }
+    ensures line { IfOk result (λ a. view.line_of a ≡ printed_for [] (view.answer a)) }
+    ensures narrow { All (λ w. w < 2 ^ 32) words.now }
 {
     let line = image_line(alloc, image, words)?;
     let bytes = to_bytes(alloc, words)?;
@@ -116,7 +122,8 @@ fn image_put(
     requires few { length shader.now.statements < 2 ^ 20 }
     requires home { IsTrue (is_short_name home.now) }
     ensures puts { IfOk result (λ a. view.answer a ≡ puts_image image.now home.now shader.now) }
-    ensures line { IfOk result (λ a. view.line_of a ≡ printed (view.answer a)) }
+    ensures line { IfOk result (λ a. view.line_of a ≡ printed_for [] (view.answer a)) }
+    ensures narrow { OnOk result (HasNarrowWords home.now shader.now) }
 {
     let name = Name::from_slice(alloc, home)?;
     let words = image_words_of(alloc, &name, shader)?;
@@ -143,7 +150,8 @@ fn compile_shader(
     requires few { length shader.now.statements < 2 ^ 20 }
     requires home { IsTrue (is_short_name home.now) }
     ensures answer { IfOk result (λ a. OfShader (record { «module» = «module».now; path = entry.now }) image.now home.now shader.now (view.answer a)) }
-    ensures line { IfOk result (λ a. view.line_of a ≡ printed (view.answer a)) }
+    ensures line { IfOk result (λ a. view.line_of a ≡ printed_for [] (view.answer a)) }
+    ensures narrow { IfOk result (λ a. IfPuts (view.answer a) (HasNarrowWords home.now shader.now)) }
 {
     if is_entry(module, entry, home, shader) {
         image_put(alloc, image, home, shader)
@@ -165,8 +173,12 @@ fn compile_text(
     requires home { IsTrue (is_short_name home.now) }
     ensures answer { (m : Contents) → m (text_name home.now) ≡ Some text.now
         → IfOk result (λ a. Compiles m (record { «module» = «module».now; path = entry.now }) image.now home.now (view.answer a)) }
-    ensures line { IfOk result (λ a. view.line_of a ≡ printed (view.answer a)) }
+    ensures line { IfOk result (λ a. view.line_of a ≡ printed_for [] (view.answer a)) }
+    ensures told { (m : Contents) → m (text_name home.now) ≡ Some text.now
+        → IfOk result (λ a. IfPuts (view.answer a) (ImageIsTold m home.now)) }
 {
+    one_shader();
+    image_is_short();
     match read_shader(alloc, text)? {
         None => module_refused(alloc, home, 0, ModuleCode::NotYet),
         Some(shader) => compile_shader(alloc, module, entry, image, home, &shader),
@@ -186,13 +198,15 @@ pub fn compile_found(
     requires home { IsTrue (is_short_name home.now) }
     ensures answer { (m : Contents) → IsFound text_limit (m (text_name home.now)) found
         → IfOk result (λ a. Compiles m (record { «module» = «module».now; path = entry.now }) image.now home.now (view.answer a)) }
-    ensures line { IfOk result (λ a. view.line_of a ≡ printed (view.answer a)) }
+    ensures line { IfOk result (λ a. view.line_of a ≡ printed_for [] (view.answer a)) }
+    ensures told { (m : Contents) → IsFound text_limit (m (text_name home.now)) found
+        → IfOk result (λ a. IfPuts (view.answer a) (ImageIsTold m home.now)) }
 {
     match found {
         Found::Bytes(text) => compile_text(alloc, module, entry, image, home, text.as_slice()),
         Found::Absent => {
             let name = text_file(alloc, home)?;
-            refuses(alloc, Outcome::Absent { name })
+            refuses(alloc, b"", Outcome::Absent { name })
         }
         Found::TooLong => module_refused(
             alloc,

@@ -6,12 +6,9 @@ mod calls;
 mod command;
 mod compile;
 mod laws;
-mod lines;
-mod outcome;
-#[cfg(test)]
-mod tests;
+mod runs;
 mod top;
 
 pub use laws::at_most_one_answer;
-pub use outcome::Outcome;
+pub use slang_outcomes::Outcome;
 pub use top::slangc;

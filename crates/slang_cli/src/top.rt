@@ -4,16 +4,17 @@ ghost use Rattle.std.specs.Prelude.{◌≡◌, ◌≢◌, ◌⊎◌, ◌≤◌, 
 ghost use Rattle.slang_tree.specs.declared.names.Ref.{Ref};
 ghost use Rattle.slang_store.specs.Contents.{Contents, IsPrefixOf};
 ghost use Rattle.slang_store.specs.Counts.{Rose};
-ghost use Rattle.slang_cli.specs.Commands.{Request, Compile, command_of};
-ghost use Rattle.slang_cli.specs.Lines.{refusal_line};
+ghost use Rattle.slang_cli.specs.Commands.{Request, Compile, command_of, asked_of};
+ghost use Rattle.slang_outcomes.specs.Lines.{refusal_line};
 ghost use Rattle.slang_cli.specs.Calls.{WhereSettled, WhereRefused, Answered, MayHold, IsLine, Means};
-ghost use Rattle.slang_cli.specs.declared.outcome.Outcome.TheVariants.{Done, Words, ReadFault, WriteFault};
+ghost use Rattle.slang_outcomes.specs.declared.outcome.Outcome.TheVariants.{Done, Words, ReadFault, WriteFault};
 
-use crate::Outcome;
 use crate::calls::call;
 use first_image::{image_is_spelled, words_mean_source};
+use slang_outcomes::Outcome;
 use slang_store::{Files, Sink, an_entry_changes_one_name};
 use std::alloc::Global;
+use valid_first_image::the_image_is_valid;
 
 /// Does what the words after the program's name ask for, over these files, and prints one line to `out`.
 ///
@@ -37,7 +38,8 @@ pub fn slangc<F: Files, S: Sink>(
         (record { bytes = S.taken out.old; faults = S.faults out.old })
         (record { bytes = S.taken out.new; faults = S.faults out.new })) }
 
-    // The words that are put do what the text means: for all built-in values, lengths, answers to reads and bounds.
+    // The words that are put spell a valid image, are read from their bytes again, and do what the text means: for all
+    // built-in values, lengths, answers to reads and bounds.
     ensures means { (m : Contents) → F.told files.old ≡ Some m
         → (entry : Ref) (image home : List ℕ) → command_of (map string_bytes words.now) ≡ Some (Compile entry image home)
         → result ≡ Done → (n : Contents) × (F.told files.new ≡ Some n) × Means entry image home m n }
@@ -55,7 +57,7 @@ pub fn slangc<F: Files, S: Sink>(
 
     // One line is printed, or with status 5 a part of one.
     ensures line { (b : List ℕ) → S.taken out.old ≡ Some b
-        → WhereRefused result (S.taken out.new ≡ Some (b ++ refusal_line result)) }
+        → WhereRefused result (S.taken out.new ≡ Some (b ++ refusal_line (asked_of (command_of (map string_bytes words.now))) result)) }
     ensures line_in_part { (m : Contents) → F.told files.old ≡ Some m → (b : List ℕ) → S.taken out.old ≡ Some b
         → result ≡ WriteFault → (line p : List ℕ) × IsLine (command_of (map string_bytes words.now)) m line × IsPrefixOf p line
         × (S.taken out.new ≡ Some (b ++ p)) }
@@ -67,6 +69,7 @@ pub fn slangc<F: Files, S: Sink>(
 {
     words_mean_source();
     image_is_spelled();
+    the_image_is_valid();
     an_entry_changes_one_name();
     call(alloc, words, files, out)
 }

@@ -1,6 +1,6 @@
 use Rattle.std.proofs.Common.{◌≡◌, Option, Some, None, Err, ap, sym, ◌∙◌, subst, refl}
 use Rattle.slang_store.specs.Counts.{Rose}
-use Rattle.slang_cli.specs.declared.outcome.Outcome.TheVariants.{Words, ReadFault, Memory}
+use Rattle.slang_outcomes.specs.declared.outcome.Outcome.TheVariants.{Words, ReadFault, Memory}
 use Rattle.slang_cli.specs.Commands.{Request}
 use Rattle.slang_cli.specs.Outside.{FilesNow, SinkNow, Runs, halted}
 use Rattle.slang_cli.specs.Views as view
@@ -18,7 +18,7 @@ returns-in-Ok-clause-runs g c =
     let e = ap view.optional_command (sym c.in-Some.is) ∙ c.parse.ensures.command in
     let f : FilesNow = record { contents = g.F.Files.told c.args.files.now; reads = g.F.Files.read_faults c.args.files.now; puts = g.F.Files.put_faults c.args.files.now } in
     runs_as e (runs_before _ f _ _ _ _ c.carry_out.ensures.stays c.carry_out.ensures.puts_stay c.carry_out.ensures.no_fault_lost
-    (c.deliver.ensures.runs (view.command c.in-Some.command) (answer_still (view.command c.in-Some.command) f _ (view.answer c.in-Ok.answer) c.carry_out.ensures.stays c.in-Ok.ensures.answer)))
+    (c.deliver.ensures.runs (view.command c.in-Some.command) c.in-Ok.ensures.line (answer_still (view.command c.in-Some.command) f _ (view.answer c.in-Ok.answer) c.carry_out.ensures.stays c.in-Ok.ensures.answer)))
 
 pub returns-in-Err-Read-clause-runs : goal.returns-in-Err-Read-clause-runs
 returns-in-Err-Read-clause-runs g c =

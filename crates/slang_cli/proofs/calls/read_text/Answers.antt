@@ -1,7 +1,7 @@
 use Rattle.std.proofs.Common.{ℕ, List, subst}
 use Rattle.slang_cli.specs.Answers.{text_limit}
-use Rattle.slang_cli.specs.Found.{IsFound}
-use Rattle.slang_cli.proofs.FoundText.{found_by}
+use Rattle.slang_store.specs.Finds.{IsFound}
+use Rattle.slang_store.proofs.FoundUnder.{found_by}
 use Rattle.slang_cli.proofs.calls.read_text.Goals as goal
 
 pub returns-in-Ok-read-clause-found : goal.returns-in-Ok-read-clause-found

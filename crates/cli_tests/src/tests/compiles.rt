@@ -1,41 +1,11 @@
-// Whole calls over files in memory.
+// Compiles: the words of images, and what is refused.
 
-mod shaders;
-
-use crate::{Outcome, slangc};
-use slang_store::{Files, MemoryFiles, MemorySink};
-use slang_tree::Name;
+use super::{call, put, shaders};
+use slang_store::MemoryFiles;
 use spirv_words::from_bytes;
 use std::alloc::Global;
 use std::process::Abort;
 use std::test::Fail;
-
-/// The words of a command line.
-fn words(alloc: Global, line: &str) -> Result<Vec<String>, Fail> {
-    let mut words = Vec::new(alloc);
-    for word in line.split_ascii_whitespace() {
-        words.push(String::from_str(alloc, word)?)?;
-    }
-    Ok(words)
-}
-
-fn put(alloc: Global, files: &mut MemoryFiles, name: &str, bytes: &[u8]) -> Result<(), Fail> {
-    files.put(&Name::from_slice(alloc, name.as_bytes())?, bytes)?;
-    Ok(())
-}
-
-/// The status of a call and the line that it printed, over `a.slang` with this text.
-fn call(
-    alloc: Global,
-    files: &mut MemoryFiles,
-    line: &str,
-    room: usize,
-) -> Result<(Outcome, MemorySink), Fail> {
-    let words = words(alloc, line)?;
-    let mut out = MemorySink::new(alloc, room)?;
-    let outcome = slangc(alloc, words.as_slice(), files, &mut out);
-    Ok((outcome, out))
-}
 
 /// Compiles a text and compares the image and the line.
 fn check_image(
