@@ -1,0 +1,4 @@
+mod Outcomes
+pub mod Beside
+mod Scanned
+mod Scans

@@ -1,0 +1,5 @@
+pub mod Starts
+pub mod Limited
+pub mod Reads
+pub mod Scanning
+pub mod Reached
