@@ -1,0 +1,7 @@
+pub mod Operands
+pub mod Behind
+pub mod Changes
+pub mod Ahead
+pub mod Never
+pub mod Parts
+pub mod Statements
