@@ -1,5 +1,5 @@
-# `make` proves and builds the program, `make example` compiles the shipped shader and shows the line that is printed,
-# `make test` is the gate.
+# `make` proves and builds the program, `make example` compiles the shipped shader, runs its image over four words and shows
+# the lines that are printed and the words afterwards, `make test` is the gate.
 
 PROGRAM := crates/slangc/out/slangc
 
@@ -9,7 +9,7 @@ all:
 	cd crates/slangc && { rt run -- > /dev/null; test -x out/slangc; }
 
 example: all
-	cd examples/increment && ../../$(PROGRAM) compile a.main a.spv a
+	cd examples/increment && ../../$(PROGRAM) compile a.main a.spv a && ../../$(PROGRAM) run a.spv main 4 1 1 100 buffers.txt out && cat out
 
 test:
 	rt ci
