@@ -32,8 +32,8 @@ const INCREMENT: [u32; 265] = [
 
 /// What stands before the code of the entry: the types void 2, bool 3, int 4, uint 5, uint2 6 and uint3 7, constants 20 to 30,
 /// a buffer 13 of words, the global id 17, and the entry 1 up to its Label.
-const BEFORE: [u32; 151] = [
-    0x7230203, 0x10500, 0, 100, 0, 0x20011, 1, 0x3000e, 0, 1, 0x5000f, 5, 1, 0x6e69616d, 0,
+const BEFORE: [u32; 153] = [
+    0x7230203, 0x10500, 0, 100, 0, 0x20011, 1, 0x3000e, 0, 1, 0x7000f, 5, 1, 0x6e69616d, 0, 13, 17,
     0x60010, 1, 17, 1, 1, 1, // the buffer and its place
     0x40047, 10, 6, 4, 0x50048, 11, 0, 35, 0, 0x40047, 13, 34, 0, 0x40047, 13, 33, 0, 0x40047, 17,
     11, 28, // types
@@ -139,7 +139,11 @@ const DIVIDES: [u32; 29] = [
     0x50086, 5, 52, 25, 51, 0x3003e, 50, 52, 0x100fd, 0x10038,
 ];
 
+/// Returns.
 const ENDS: [u32; 2] = [0x100fd, 0x10038];
+
+/// Does not go on: undefined as the second step too.
+const UNREACHABLE: [u32; 2] = [0x100ff, 0x10038];
 
 /// An image with these instructions in its entry.
 fn made(alloc: Global, code: &[u32], end: &[u32]) -> Result<Vec<u32>, AllocError> {
@@ -292,8 +296,7 @@ fn undefined(rt: HostRuntime) -> Result<(), Fail> {
     for code in UNDEFINED {
         assert!(rt; is_undefined(rt.alloc(), code, &ENDS)?);
     }
-    // Unreachable
-    assert!(rt; is_undefined(rt.alloc(), &[0x100ff], &[0x10038])?);
+    assert!(rt; is_undefined(rt.alloc(), &[], &UNREACHABLE)?);
     Ok(())
 }
 
