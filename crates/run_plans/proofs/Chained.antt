@@ -13,7 +13,7 @@ use Rattle.run_rooms.specs.Rooms.{Rooms}
 use Rattle.run_plans.specs.declared.steps.Step.{Step}
 use Rattle.run_plans.specs.Actions.{items, is_in_buffer, chain_by, buffer_chain_by, chain_of}
 use Rattle.run_plans.specs.Walks.{HasShape}
-use Rattle.run_plans.specs.Steps.{planned, after_step, type_behind, behind, IsStep, IsWalked, IsWalk}
+use Rattle.run_plans.specs.Steps.{planned, after_step, type_behind, behind, IsStep, IsWalked, IsWalk, IsNoStep, IsNoWalk}
 
 pub behind_none : (p : Planned) → p ≡ behind 0 [] p
 behind_none (Plan o steps of) = ap (λ n. Plan n steps of) (none o)
@@ -54,6 +54,11 @@ module _ (code : List Instruction) (L : Rooms) (in_buffer : Bool) (s : Shape) (i
         goes = w.goes ∙ ap (behind offset steps) (next.goes rest) ∙ sym (add (planned in_buffer next.form (items code L next.form rest)));
       }
 
+  -- no walk goes on where an index leads nowhere
+  pub walk_stops : (offset : ℕ) (steps : List Index) (t i : ℕ) (rest : List ℕ) → IsWalked code L in_buffer s is offset steps t (i ∷ rest)
+      → IsNoStep code L in_buffer t i → planned in_buffer s (items code L s is) ≡ NoPlan
+  walk_stops offset steps t i rest w n = w.goes ∙ ap (behind offset steps) (n.ends w.form rest w.is_form)
+
   pub walk_ends : (offset : ℕ) (steps : List Index) (t : ℕ) → IsWalked code L in_buffer s is offset steps t []
       → (of : Shape) × (planned in_buffer s (items code L s is) ≡ Plan offset steps of)
   walk_ends offset steps t w = (
@@ -92,3 +97,18 @@ buffer_chain_is code L to pointer t is offset steps e h w b =
     (chain_by code L (plan s (items code L s is)) pointer to))) (sym (ap (shape code) e) ∙ h.1)
     ∙ ap (λ r. cond r (buffer_chain_by code L (buffer_plan h.0 (items code L h.0 is)) pointer to) (chain_by code L (plan h.0 (items code L h.0 is)) pointer to)) b
     ∙ ap (λ (p : Planned). buffer_chain_by code L p pointer to) walk.1)
+
+-- a chain whose indices lead nowhere
+pub no_chain_is : (code : List Instruction) (L : Rooms) (to pointer t : ℕ) (is : List ℕ) (in_buffer : Bool)
+    → t ≡ operand code (type_id code pointer) 2 → HasShape code t → IsNoWalk code L in_buffer t is → is_in_buffer code pointer ≡ in_buffer
+    → Never ≡ chain_of code L to pointer is
+no_chain_is code L to pointer t is in_buffer e h w b =
+    sym (ap (λ (o : Option Shape). if_some o Never (λ s. cond (is_in_buffer code pointer) (buffer_chain_by code L (buffer_plan s (items code L s is)) pointer to)
+    (chain_by code L (plan s (items code L s is)) pointer to))) (sym (ap (shape code) e) ∙ h.1)
+    ∙ ap (λ r. cond r (buffer_chain_by code L (buffer_plan h.0 (items code L h.0 is)) pointer to) (chain_by code L (plan h.0 (items code L h.0 is)) pointer to)) b
+    ∙ by_class in_buffer (w.ends h.0 h.1))
+  where
+    by_class : (r : Bool) → planned r h.0 (items code L h.0 is) ≡ NoPlan
+        → cond r (buffer_chain_by code L (buffer_plan h.0 (items code L h.0 is)) pointer to) (chain_by code L (plan h.0 (items code L h.0 is)) pointer to) ≡ Never
+    by_class true e = ap (λ (p : Planned). buffer_chain_by code L p pointer to) e
+    by_class false e = ap (λ (p : Planned). chain_by code L p pointer to) e

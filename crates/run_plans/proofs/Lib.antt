@@ -7,3 +7,4 @@ pub mod Bounded
 pub mod Ordered
 pub mod Written
 pub mod Acting
+pub mod Rows

@@ -51,7 +51,7 @@ behind_first a c (b ∷ bs) (suc n) up e =
     later a b c (up zero a b refl refl) (behind_first b c bs n (λ m x y p q. up (suc m) x y p q) e)
 
 -- a buffer's number is where it stands
-number_is : (bs : List Bound) (n : ℕ) (b : Bound) → Ascends bs → slice_get bs n ≡ Some b → number_in (map pair_of bs) (pair_of b) ≡ n
+pub number_is : (bs : List Bound) (n : ℕ) (b : Bound) → Ascends bs → slice_get bs n ≡ Some b → number_in (map pair_of bs) (pair_of b) ≡ n
 number_is [] n b up e = absurd (no_item n b e)
 number_is (a ∷ bs) zero b up e =
     ap (λ r. cond r 0 (suc (number_in (map pair_of bs) (pair_of b))))

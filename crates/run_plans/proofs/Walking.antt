@@ -1,6 +1,7 @@
 -- Steps of chains lead where indices lead.
-use Rattle.std.proofs.Common.{◌≡◌, ℕ, ◌+◌, ◌/◌, ◌%◌, Bool, true, false, cond, List, [], ◌∷◌, drop, take, slice_get, Option, Some, Result, Ok, Err, IfOk, sym, ap, ◌∙◌, subst, arith}
+use Rattle.std.proofs.Common.{◌≡◌, ◌≢◌, ℕ, ◌+◌, ◌/◌, ◌%◌, Bool, true, false, cond, List, [], ◌∷◌, drop, take, slice_get, Option, Some, None, Result, Ok, Err, IfOk, refl, sym, ap, ◌∙◌, subst, arith}
 use Rattle.std.specs.Prelude.{nat_eq}
+use Rattle.std.proofs.lemmas.Bool.{ne_eqb}
 use Rattle.spirv_words.specs.declared.images.Instruction.{Instruction}
 use Rattle.spirv_words.specs.Machine.{Shape, Shapes, Repeated, Unbounded, Fields, if_some, or_zero}
 use Rattle.spirv_words.specs.Step.{field_at}
@@ -19,12 +20,18 @@ use Rattle.run_plans.specs.declared.steps.Step.{Step}
 use Rattle.run_plans.specs.declared.steps.Step.TheVariants.{Member}
 use Rattle.run_plans.specs.Actions.{items}
 use Rattle.run_plans.specs.Walks.{IsMember, total_width}
-use Rattle.run_plans.specs.Steps.{planned, IsStep, IsStepOf, IsStrideOf, IsElementStep}
+use Rattle.run_plans.specs.Steps.{planned, IsStep, IsStepOf, IsStrideOf, IsElementStep, IsBroken, IsElementStepIf, IsNoStep, IsStepIf}
 use Rattle.run_plans.proofs.Placed.{some_same, member_at_number}
 
 -- whole words
 in_words_is : (bytes n : ℕ) (go : ℕ → Planned) → bytes % 4 ≡ 0 → n ≡ bytes / 4 → in_words bytes go ≡ go n
 in_words_is bytes n go e f = ap (λ r. cond (nat_eq r 0) (go (bytes / 4)) NoPlan) e ∙ ap go (sym f)
+
+not_words : (bytes : ℕ) (go : ℕ → Planned) → bytes % 4 ≢ 0 → in_words bytes go ≡ NoPlan
+not_words bytes go n = ap (λ r. cond r (go (bytes / 4)) NoPlan) (ne_eqb (bytes % 4) 0 n)
+
+not_false : false ≡ true → ⊥
+not_false e = grind arith
 
 none_more : (k : ℕ) → 0 + k ≡ k
 none_more k = omega arith
@@ -112,17 +119,57 @@ module _ (code : List Instruction) (L : Rooms) where
             ∙ ap (λ o. moved o (plan at.form (items code L at.form is))) (none_more (total_width code (take number (drop 1 (operands code t)))) ∙ sym m.behind);
       })
 
+  -- ---- where no run goes
+
+  repeated_ends : (in_buffer : Bool) (t n bytes i : ℕ) → IsRepeated code t n bytes → IsBroken in_buffer bytes → IsNoStep code L in_buffer t i
+  repeated_ends false t n bytes i r b = absurd (not_false b.inside)
+  repeated_ends true t n bytes i r b = record {
+    ends = λ s is e.
+        subst (λ (s : Shape). planned true s (items code L s (i ∷ is)) ≡ NoPlan) (some_same (sym r.whole ∙ e))
+        (not_words bytes
+        (λ w. stepped (record { slot = L.slot i; extent = Fixed n; stride = w; signed = signed code (globals_of code) i }) (buffer_plan r.of (items code L r.of is)))
+        b.broken);
+  }
+
+  unbounded_ends : (t i : ℕ) → IsUnbounded code t → stride_of code t % 4 ≢ 0 → IsNoStep code L true t i
+  unbounded_ends t i r broken = record {
+    ends = λ s is e.
+        subst (λ (s : Shape). planned true s (items code L s (i ∷ is)) ≡ NoPlan) (some_same (sym r.whole ∙ e))
+        (not_words (stride_of code t)
+        (λ w. stepped (record { slot = L.slot i; extent = Whole; stride = w; signed = signed code (globals_of code) i }) (buffer_plan r.of (items code L r.of is)))
+        broken);
+  }
+
+  -- an array without length is reached in buffers alone
+  pub unbounded_outside : (in_buffer : Bool) (t i : ℕ) → in_buffer ≡ false → IsUnbounded code t → IsNoStep code L in_buffer t i
+  unbounded_outside true t i b r = absurd (not_false (sym b))
+  unbounded_outside false t i b r = record {
+    ends = λ s is e. subst (λ (s : Shape). planned false s (items code L s (i ∷ is)) ≡ NoPlan) (some_same (sym r.whole ∙ e)) refl;
+  }
+
+  pub buffer_member_ends : (t number i part : ℕ) → IsFields code t → number ≡ or_zero (constant_number code i)
+      → slice_get (drop 1 (operands code t)) number ≡ Some part → offset_of code t number % 4 ≢ 0 → IsNoStep code L true t i
+  buffer_member_ends t number i part f e m broken =
+      let at = member_at_number code t 0 (drop 1 (operands code t)) f.fields number part f.members m in
+      let field = from_first code t number f.fields at.form at.field in
+      record {
+        ends = λ s is k.
+            subst (λ (s : Shape). planned true s (items code L s (i ∷ is)) ≡ NoPlan) (some_same (sym f.whole ∙ k))
+            (member_item true f.fields number i (offset_of code t number) at.form is e field
+            ∙ ap (λ (o : Option (ℕ × Shape)). if_some o NoPlan (λ g. in_words g.0 (λ o. moved o (buffer_plan g.1 (items code L at.form is))))) field
+            ∙ not_words (offset_of code t number) (λ o. moved o (buffer_plan at.form (items code L at.form is))) broken);
+      }
+
   -- the same of the results of calls
-  pub repeated_steps : {E : Type 0} (in_buffer : Bool) (t n bytes i : ℕ) (r : Result Step E) → IsRepeated code t n bytes
-      → IfOk r (IsElementStep code L in_buffer (operand code t 1) (Fixed n) bytes i) → IfOk r (IsStep code L in_buffer t i)
-  repeated_steps in_buffer t n bytes i (Ok step) is e = repeated_step in_buffer t n bytes i step is e
+  pub repeated_steps : {E : Type 0} (in_buffer : Bool) (t n bytes i : ℕ) (r : Result (Option Step) E) → IsRepeated code t n bytes
+      → IfOk r (IsElementStepIf code L in_buffer (operand code t 1) (Fixed n) bytes i) → IfOk r (IsStepIf code L in_buffer t i)
+  repeated_steps in_buffer t n bytes i (Ok (Some step)) is e = repeated_step in_buffer t n bytes i step is e
+  repeated_steps in_buffer t n bytes i (Ok None) is e = repeated_ends in_buffer t n bytes i is e
   repeated_steps in_buffer t n bytes i (Err e) is h = tt
 
-  pub unbounded_steps : {E : Type 0} (in_buffer : Bool) (t i : ℕ) (r : Result Step E) → in_buffer ≡ true → IsUnbounded code t
-      → IfOk r (IsElementStep code L in_buffer (operand code t 1) Whole (stride_of code t) i) → IfOk r (IsStep code L in_buffer t i)
-  unbounded_steps true t i (Ok step) b is e = unbounded_step t i step is e
-  unbounded_steps false t i (Ok step) b is e = absurd (never b)
-    where
-      never : false ≡ true → ⊥
-      never b = grind arith
+  pub unbounded_steps : {E : Type 0} (in_buffer : Bool) (t i : ℕ) (r : Result (Option Step) E) → in_buffer ≡ true → IsUnbounded code t
+      → IfOk r (IsElementStepIf code L in_buffer (operand code t 1) Whole (stride_of code t) i) → IfOk r (IsStepIf code L in_buffer t i)
+  unbounded_steps true t i (Ok (Some step)) b is e = unbounded_step t i step is e
+  unbounded_steps true t i (Ok None) b is e = unbounded_ends t i is e.broken
+  unbounded_steps false t i (Ok o) b is e = absurd (not_false b)
   unbounded_steps in_buffer t i (Err e) b is h = tt

@@ -40,3 +40,10 @@ pub record AreBounds (code : List Instruction) (bounds : List Bound) : Type 0 wh
   pub ascending : (n : ℕ) (a b : Bound) → slice_get bounds n ≡ Some a → slice_get bounds (suc n) ≡ Some b → IsBefore a b
   pub each : (x : ℕ) → is_buffer code x ≡ true → list_any (same_bound (bound_of code x)) bounds ≡ true
   pub of : (p : Bound → Bool) → list_any p bounds ≡ true → (x : ℕ) × (is_buffer code x ≡ true) × (p (bound_of code x) ≡ true)
+
+-- the buffer with a set and a binding stands there
+pub record IsPlaceOf (bounds : List Bound) (set binding place : ℕ) : Type 0 where
+  pub bound : Bound
+  pub stands : slice_get bounds place ≡ Some bound
+  pub set_is : bound.set ≡ set
+  pub binding_is : bound.binding ≡ binding

@@ -4,6 +4,7 @@ pub mod Walks
 pub mod Steps
 pub mod Calls
 pub mod Ground
+pub mod Members
 pub mod Plans
 pub mod Values
 pub mod Buffers

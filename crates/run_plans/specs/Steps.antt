@@ -1,5 +1,5 @@
 -- The steps of access chains, taken by types.
-use Rattle.std.specs.Prelude.{◌≡◌, ℕ, ◌+◌, ◌/◌, ◌%◌, Bool, true, false, List, ◌∷◌, ◌++◌, Some}
+use Rattle.std.specs.Prelude.{◌≡◌, ◌≢◌, ℕ, ◌+◌, ◌/◌, ◌%◌, Bool, true, false, List, ◌∷◌, ◌++◌, Option, Some, None}
 use Rattle.spirv_words.specs.declared.images.Instruction.{Instruction}
 use Rattle.spirv_words.specs.Machine.{Shape, if_some}
 use Rattle.spirv_words.specs.Runs.{signed}
@@ -9,6 +9,7 @@ use Rattle.run_actions.specs.declared.actions.Index.{Index}
 use Rattle.action_laws.specs.Paths.{Item, Planned, Plan, NoPlan, plan, buffer_plan, moved, stepped}
 use Rattle.image_facts.specs.Operands.{globals_of, shape}
 use Rattle.run_rooms.specs.Rooms.{Rooms}
+use Rattle.run_plans.specs.declared.chains.Walk.{Walk}
 use Rattle.run_plans.specs.declared.steps.Step.{Step}
 use Rattle.run_plans.specs.declared.steps.Step.TheVariants.{Member, Element}
 use Rattle.run_plans.specs.Actions.{items}
@@ -62,3 +63,39 @@ pub record IsWalked (code : List Instruction) (L : Rooms) (in_buffer : Bool) (s 
   pub form : Shape
   pub is_form : shape code t ≡ Some form
   pub goes : planned in_buffer s (items code L s is) ≡ behind offset steps (planned in_buffer form (items code L form rest))
+
+-- ---- where no run goes
+
+-- bytes as words, if they are whole words
+abbrev pub AreWords : ℕ → Option ℕ → Type 0
+AreWords bytes (Some n) = (bytes % 4 ≡ 0) × (n ≡ bytes / 4)
+AreWords bytes None = bytes % 4 ≢ 0
+
+-- elements in a buffer are not apart by whole words
+pub record IsBroken (in_buffer : Bool) (bytes : ℕ) : Type 0 where
+  pub inside : in_buffer ≡ true
+  pub broken : bytes % 4 ≢ 0
+
+abbrev pub IsStrideIf : List Instruction → Bool → ℕ → ℕ → Option ℕ → Type 0
+IsStrideIf code in_buffer of bytes (Some n) = IsStrideOf code in_buffer of bytes n
+IsStrideIf code in_buffer of bytes None = IsBroken in_buffer bytes
+
+abbrev pub IsElementStepIf : List Instruction → Rooms → Bool → ℕ → Extent → ℕ → ℕ → Option Step → Type 0
+IsElementStepIf code L in_buffer of extent bytes id (Some step) = IsElementStep code L in_buffer of extent bytes id step
+IsElementStepIf code L in_buffer of extent bytes id None = IsBroken in_buffer bytes
+
+-- an index leads nowhere from a type's shape
+pub record IsNoStep (code : List Instruction) (L : Rooms) (in_buffer : Bool) (t index : ℕ) : Type 0 where
+  pub ends : (s : Shape) (is : List ℕ) → shape code t ≡ Some s → planned in_buffer s (items code L s (index ∷ is)) ≡ NoPlan
+
+abbrev pub IsStepIf : List Instruction → Rooms → Bool → ℕ → ℕ → Option Step → Type 0
+IsStepIf code L in_buffer t index (Some step) = IsStep code L in_buffer t index step
+IsStepIf code L in_buffer t index None = IsNoStep code L in_buffer t index
+
+-- the same of indices
+pub record IsNoWalk (code : List Instruction) (L : Rooms) (in_buffer : Bool) (t : ℕ) (is : List ℕ) : Type 0 where
+  pub ends : (s : Shape) → shape code t ≡ Some s → planned in_buffer s (items code L s is) ≡ NoPlan
+
+abbrev pub IsWalkIf : List Instruction → Rooms → Bool → ℕ → List ℕ → Option Walk → Type 0
+IsWalkIf code L in_buffer t is (Some walk) = IsWalk code L in_buffer t is walk.offset walk.steps
+IsWalkIf code L in_buffer t is None = IsNoWalk code L in_buffer t is

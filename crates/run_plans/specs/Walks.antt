@@ -1,12 +1,10 @@
 -- How types are walked along with their shapes.
-use Rattle.std.specs.Prelude.{◌≡◌, ℕ, ◌+◌, Bool, true, false, List, [], ◌∷◌, Some, drop, slice_get, take}
+use Rattle.std.specs.Prelude.{◌≡◌, ℕ, ◌+◌, List, [], ◌∷◌, Some, drop, slice_get, take}
 use Rattle.spirv_words.specs.declared.images.Instruction.{Instruction}
 use Rattle.spirv_words.specs.declared.images.Image.{Image}
 use Rattle.spirv_words.specs.Machine.{Shape, if_some}
 use Rattle.flat_values.specs.Flat.{width}
 use Rattle.flat_values.specs.Pieces.{At, piece_of, piece}
-use Rattle.image_lookup.specs.declared.sorts.Sort.{Sort}
-use Rattle.image_lookup.specs.declared.sorts.Sort.TheVariants.{BoolType, IntType, VectorType, ArrayType, RuntimeArrayType, StructType}
 use Rattle.image_lookup.specs.Lookups.{operands}
 use Rattle.image_facts.specs.Operands.{shape}
 use Rattle.spirv_check.specs.Valid.{Valid}
@@ -39,16 +37,6 @@ IsPart code t number part place = (s : Shape) → shape code t ≡ Some s → Is
 -- a type has a shape
 abbrev pub HasShape : List Instruction → ℕ → Type 0
 HasShape code t = (s : Shape) × (shape code t ≡ Some s)
-
--- what has such a shape
-abbrev pub is_shaped : Sort → Bool
-is_shaped BoolType = true
-is_shaped IntType = true
-is_shaped VectorType = true
-is_shaped ArrayType = true
-is_shaped RuntimeArrayType = true
-is_shaped StructType = true
-is_shaped sort = false
 
 pub record IsPathOf (code : List Instruction) (s : Shape) (path : List ℕ) (part place : ℕ) : Type 0 where
   pub form : Shape

@@ -5,6 +5,7 @@ ghost use Rattle.spirv_words.specs.Machine.{place_of};
 ghost use Rattle.image_places.specs.Places.{function_of, under_function};
 ghost use Rattle.run_plans.specs.Ground.{rooms_of};
 ghost use Rattle.run_plans.specs.Actions.{is_in_buffer, load_of, store_of, same_of, one_of, two_of, jump_of, choice_of, act_by, action_of};
+ghost use Rattle.run_plans.specs.Members.{HasRows};
 ghost use Rattle.run_plans.specs.Walks.{IsOfValid};
 ghost use Rattle.run_plans.specs.Plans.{AreActions};
 
@@ -149,6 +150,7 @@ fn act_by(
     operands: &[u32],
 ) -> Result<Action, AllocError>
     requires valid { IsOfValid places.now.places.code }
+    requires rows { HasRows places.now }
     requires inside { function ≡ function_of places.now.places.code number }
     ensures { IfOk result (λ action. action ≡ act_by places.now.places.code (rooms_of places.now) number kind operands.now) }
 {
@@ -199,6 +201,7 @@ pub fn function_behind(op: Op, number: usize, function: usize) -> usize
 /// The actions of all instructions.
 pub fn actions_of(alloc: Global, places: &Ground) -> Result<Vec<Action>, AllocError>
     requires valid { IsOfValid places.now.places.code }
+    requires rows { HasRows places.now }
     ensures { IfOk result (λ actions. AreActions places.now.places.code (rooms_of places.now) actions.items) }
 {
     let mut actions = Vec::new(alloc);

@@ -7,6 +7,7 @@ ghost use Rattle.run_rooms.specs.Widths.{in_word};
 use image_declarations::Declarations;
 use run_rooms::Places;
 use sqlite_items::Items;
+use std::collections::HashMap;
 
 /// A buffer that an image names: its set and binding, and how many words it needs.
 #[derive(Clone, Copy, PartialEq, Eq, PartialOrd, Ord, Debug)]
@@ -16,11 +17,12 @@ pub struct Bound {
     pub words: u32,
 }
 
-/// Where the values of an image stand, and the buffers that it names.
+/// Where the values of an image stand, the buffers that it names, and the places of each struct's members behind its first word.
 #[derive(Drop)]
 pub struct Ground<'a> {
     pub places: Places<'a>,
     pub buffers: Items<Bound>,
+    pub members: HashMap<u32, Vec<u32>>,
 }
 
 impl<'a> Ground<'a> {

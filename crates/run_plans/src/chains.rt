@@ -4,14 +4,14 @@ ghost use Rattle.std.specs.Prelude.{◌≡◌, [], IfOk};
 ghost use Rattle.action_laws.specs.Paths.{Planned};
 ghost use Rattle.run_plans.specs.Ground.{rooms_of};
 ghost use Rattle.run_plans.specs.Actions.{chain_of};
-ghost use Rattle.run_plans.specs.Walks.{IsOfValid, is_shaped};
-ghost use Rattle.run_plans.specs.Steps.{IsWalk, type_behind, after_step, behind};
+ghost use Rattle.run_plans.specs.Members.{HasRows};
+ghost use Rattle.run_plans.specs.Walks.{IsOfValid};
+ghost use Rattle.run_plans.specs.Steps.{IsWalkIf, type_behind, after_step, behind};
 
 use crate::base::Ground;
 use crate::parts::sum;
 use crate::steps::{Step, step_from};
 use image_declarations::is_buffer_class;
-use image_lookup::Sort;
 use run_actions::{Action, Index};
 use sqlite_items::Items;
 use std::alloc::{AllocError, Global};
@@ -21,21 +21,6 @@ use std::alloc::{AllocError, Global};
 pub struct Walk {
     pub offset: u32,
     pub steps: Items<Index>,
-}
-
-/// Whether a type is one that a run has shapes of.
-fn is_shaped(sort: Sort) -> bool
-    ensures { result ≡ is_shaped sort }
-{
-    match sort {
-        Sort::BoolType
-        | Sort::IntType
-        | Sort::VectorType
-        | Sort::ArrayType
-        | Sort::RuntimeArrayType
-        | Sort::StructType => true,
-        _ => false,
-    }
 }
 
 /// The type to which a step leads.
@@ -61,29 +46,33 @@ fn add_step(steps: &mut Vec<Index>, offset: u32, step: Step) -> Result<u32, Allo
     }
 }
 
-/// Where indices lead from a type on.
+/// Where indices lead from a type on, if a run can go there.
 fn walk_along(
     alloc: Global,
     places: &Ground,
     in_buffer: bool,
     type_id: u32,
     indices: &[u32],
-) -> Result<Walk, AllocError>
+) -> Result<Option<Walk>, AllocError>
     requires valid { IsOfValid places.now.places.code }
-    ensures { IfOk result (λ walk. IsWalk places.now.places.code (rooms_of places.now) in_buffer type_id indices.now walk.offset walk.steps) }
+    requires rows { HasRows places.now }
+    ensures { IfOk result (IsWalkIf places.now.places.code (rooms_of places.now) in_buffer type_id indices.now) }
 {
     let mut at = type_id;
     let mut offset: u32 = 0;
     let mut steps = Vec::new(alloc);
     for id in indices {
-        let step = step_from(places, in_buffer, at, *id)?;
+        let step = match step_from(places, in_buffer, at, *id)? {
+            Some(step) => step,
+            None => return Ok(None),
+        };
         offset = add_step(&mut steps, offset, step)?;
         at = type_behind(step);
     }
-    Ok(Walk {
+    Ok(Some(Walk {
         offset,
         steps: Items::from_vec(steps),
-    })
+    }))
 }
 
 /// The action of an access chain from a pointer, with these indices.
@@ -95,16 +84,20 @@ pub fn chain_of(
     indices: &[u32],
 ) -> Result<Action, AllocError>
     requires valid { IsOfValid places.now.places.code }
+    requires rows { HasRows places.now }
     ensures { IfOk result (λ action. action ≡ chain_of places.now.places.code (rooms_of places.now) to pointer indices.now) }
 {
     let declarations = places.declarations();
     let pointers = declarations.operand(pointer, 0);
     let of = declarations.operand(pointers, 2);
-    if !is_shaped(declarations.sort(of)) {
-        return Err(AllocError);
+    if !places.places.has_shape(of) {
+        return Ok(Action::Never);
     }
     let in_buffer = is_buffer_class(declarations.operand(pointers, 1));
-    let Walk { offset, steps } = walk_along(alloc, places, in_buffer, of, indices)?;
+    let Walk { offset, steps } = match walk_along(alloc, places, in_buffer, of, indices)? {
+        Some(walk) => walk,
+        None => return Ok(Action::Never),
+    };
     let pointer = places.slot(pointer);
     let to = places.slot(to);
     if in_buffer {

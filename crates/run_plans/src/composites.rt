@@ -4,6 +4,7 @@ ghost use Rattle.std.specs.Prelude.{◌≡◌, [], IfOk};
 ghost use Rattle.run_rooms.specs.Rooms.{slot_size};
 ghost use Rattle.run_plans.specs.Ground.{rooms_of};
 ghost use Rattle.run_plans.specs.Actions.{gathered, extract_of};
+ghost use Rattle.run_plans.specs.Members.{HasRows};
 ghost use Rattle.run_plans.specs.Walks.{IsOfValid, IsPath};
 
 use crate::base::Ground;
@@ -46,6 +47,7 @@ pub fn gathered(
 /// The part of a type's values to which a path of numbers leads.
 fn part_behind(places: &Ground, type_id: u32, path: &[u32]) -> Result<Part, AllocError>
     requires valid { IsOfValid places.now.places.code }
+    requires rows { HasRows places.now }
     ensures { IfOk result (λ part. IsPath places.now.places.code type_id path.now part.type_id part.place) }
 {
     let mut at = Part { type_id, place: 0 };
@@ -68,6 +70,7 @@ pub fn extract_of(
     path: &[u32],
 ) -> Result<Action, AllocError>
     requires valid { IsOfValid places.now.places.code }
+    requires rows { HasRows places.now }
     ensures { IfOk result (λ action. action ≡ extract_of places.now.places.code (rooms_of places.now) type_id to composite path.now) }
 {
     let declarations = places.declarations();

@@ -8,6 +8,7 @@ mod calls;
 mod chains;
 mod composites;
 mod kinds;
+mod members;
 mod parts;
 mod plan;
 mod steps;

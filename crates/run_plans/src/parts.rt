@@ -1,14 +1,16 @@
 // The parts of composites, and the places of their words.
 
-ghost use Rattle.std.specs.Prelude.{◌≡◌, ℕ, ◌+◌, ◌*◌, IfOk, Some, take, slice_get};
+ghost use Rattle.std.specs.Prelude.{◌≡◌, ℕ, ◌+◌, ◌*◌, IfOk, Some, drop, take, slice_get};
 ghost use Rattle.spirv_words.specs.Machine.{if_some};
 ghost use Rattle.flat_values.specs.Flat.{width};
-ghost use Rattle.image_lookup.specs.Lookups.{operand};
+ghost use Rattle.image_lookup.specs.Lookups.{operand, operands};
 ghost use Rattle.image_facts.specs.Operands.{shape};
 ghost use Rattle.run_rooms.specs.Rooms.{size_of, slot_size};
+ghost use Rattle.run_plans.specs.Members.{HasRows};
 ghost use Rattle.run_plans.specs.Walks.{total_width, IsMember, IsPart, IsOfValid};
 
 use crate::base::Ground;
+use crate::members::row_in;
 use image_declarations::length_of;
 use image_lookup::Sort;
 use std::alloc::AllocError;
@@ -67,38 +69,38 @@ fn product(one: u32, other: u32) -> Result<u32, AllocError>
     }
 }
 
-/// How many words the values of these types have together.
-fn total_width(places: &Ground, types: &[u32]) -> Result<u32, AllocError>
-    ensures { IfOk result (λ n. n ≡ total_width places.now.places.code types.now) }
-{
-    let mut total: u32 = 0;
-    for type_id in types {
-        total = sum(total, width_of(places, *type_id)?)?;
-    }
-    Ok(total)
-}
-
-/// The member of a struct with a number.
-pub fn member(places: &Ground, type_id: u32, number: u32) -> Result<Part, AllocError>
-    ensures { IfOk result (λ part. IsMember places.now.places.code type_id number part.type_id part.place) }
+/// The type of a struct's member.
+pub fn member_type(places: &Ground, type_id: u32, number: u32) -> Result<u32, AllocError>
+    ensures { IfOk result (λ of. slice_get (drop 1 (operands places.now.places.code type_id)) number ≡ Some of) }
 {
     match places.declarations().operands(type_id) {
-        [_, members @ ..] => member_among(places, members, number as usize),
+        [_, members @ ..] => match members.get(number as usize) {
+            Some(of) => Ok(*of),
+            None => Err(AllocError),
+        },
         _ => Err(AllocError),
     }
 }
 
-fn member_among(places: &Ground, members: &[u32], number: usize) -> Result<Part, AllocError>
-    ensures type_id { IfOk result (λ part. slice_get members.now number ≡ Some part.type_id) }
-    ensures place { IfOk result (λ part. part.place ≡ total_width places.now.places.code (take number members.now)) }
+/// Where a struct's member stands behind its first word.
+fn member_place(places: &Ground, type_id: u32, number: u32) -> Result<u32, AllocError>
+    requires rows { HasRows places.now }
+    ensures { IfOk result (λ place. place ≡ total_width places.now.places.code (take number (drop 1 (operands places.now.places.code type_id)))) }
 {
-    match members.get(number) {
-        Some(type_id) => Ok(Part {
-            type_id: *type_id,
-            place: total_width(places, &members[..number])?,
-        }),
+    match row_in(&places.members, type_id).get(number as usize) {
+        Some(place) => Ok(*place),
         None => Err(AllocError),
     }
+}
+
+/// The member of a struct with a number.
+pub fn member(places: &Ground, type_id: u32, number: u32) -> Result<Part, AllocError>
+    requires rows { HasRows places.now }
+    ensures { IfOk result (λ part. IsMember places.now.places.code type_id number part.type_id part.place) }
+{
+    let of = member_type(places, type_id, number)?;
+    let place = member_place(places, type_id, number)?;
+    Ok(Part { type_id: of, place })
 }
 
 /// The element of a vector or an array with a number.
@@ -114,6 +116,7 @@ fn element(places: &Ground, type_id: u32, number: u32) -> Result<Part, AllocErro
 /// The part of a composite with a number.
 pub fn part_with(places: &Ground, type_id: u32, number: u32) -> Result<Part, AllocError>
     requires valid { IsOfValid places.now.places.code }
+    requires rows { HasRows places.now }
     ensures { IfOk result (λ part. IsPart places.now.places.code type_id number part.type_id part.place) }
 {
     let declarations = places.declarations();

@@ -5,12 +5,14 @@ ghost use Rattle.spirv_words.specs.Runs.{start_place};
 ghost use Rattle.run_rooms.specs.Rooms.{Rooms, AreRooms};
 ghost use Rattle.run_plans.specs.Buffers.{AreBounds};
 ghost use Rattle.run_plans.specs.Ground.{rooms_of};
+ghost use Rattle.run_plans.specs.Members.{HasRows};
 ghost use Rattle.run_plans.specs.Walks.{IsOfValid};
 ghost use Rattle.run_plans.specs.Whole.{IsPlan};
 
 use crate::actions::actions_of;
 use crate::base::{Bound, Ground};
 use crate::buffers::buffers_of;
+use crate::members::rows_of;
 use crate::words::first_words;
 use image_declarations::Declarations;
 use image_lookup::entry_of;
@@ -62,6 +64,7 @@ fn plan_on(alloc: Global, base: Ground) -> Result<Plan, AllocError>
     requires valid { IsOfValid base.places.code }
     requires rooms { AreRooms base.places.code (rooms_of base) }
     requires bounds { AreBounds base.places.code base.buffers }
+    requires rows { HasRows base }
     ensures { IfOk result (IsPlan base.entry.places.code (rooms_of base.entry)) }
 {
     let actions = actions_of(alloc, &base)?;
@@ -93,5 +96,13 @@ pub fn plan_of(alloc: Global, image: &ValidImage) -> Result<Plan, AllocError>
 {
     let places = Places::new(alloc, image.image().instructions.as_slice())?;
     let buffers = buffers_of(alloc, places.declarations())?;
-    plan_on(alloc, Ground { places, buffers })
+    let members = rows_of(alloc, &places)?;
+    plan_on(
+        alloc,
+        Ground {
+            places,
+            buffers,
+            members,
+        },
+    )
 }

@@ -1,17 +1,18 @@
 // The steps of access chains.
 
-ghost use Rattle.std.specs.Prelude.{◌≡◌, ℕ, ◌/◌, ◌%◌, true, false, [], IfOk, drop, slice_get, Some};
+ghost use Rattle.std.specs.Prelude.{◌≡◌, ℕ, ◌/◌, ◌%◌, true, false, [], IfOk};
 ghost use Rattle.spirv_words.specs.Machine.{or_zero};
 ghost use Rattle.spirv_words.specs.Runs.{signed};
-ghost use Rattle.image_lookup.specs.Lookups.{operand, operands, sort};
+ghost use Rattle.image_lookup.specs.Lookups.{operand, sort};
 ghost use Rattle.image_operands.specs.Memory.{constant_number};
 ghost use Rattle.image_facts.specs.Operands.{globals_of};
 ghost use Rattle.run_plans.specs.Ground.{rooms_of};
+ghost use Rattle.run_plans.specs.Members.{HasRows};
 ghost use Rattle.run_plans.specs.Walks.{IsOfValid};
-ghost use Rattle.run_plans.specs.Steps.{IsStep, IsStrideOf, IsElementStep};
+ghost use Rattle.run_plans.specs.Steps.{AreWords, IsStepIf, IsStrideIf, IsElementStepIf};
 
 use crate::base::Ground;
-use crate::parts::{member, width_of};
+use crate::parts::{member, member_type, width_of};
 use image_declarations::length_of;
 use image_lookup::Sort;
 use run_actions::{Extent, Index};
@@ -52,25 +53,30 @@ fn number_of(places: &Ground, id: u32) -> Result<u32, AllocError>
     }
 }
 
-/// Bytes as words.
-fn in_words(bytes: u32) -> Result<u32, AllocError>
-    ensures { IfOk result (λ n. (bytes % 4 ≡ 0) × (n ≡ bytes / 4)) }
+/// Bytes as words, if they are whole words. No buffer has a type with other distances.
+fn in_words(bytes: u32) -> Option<u32>
+    ensures { AreWords bytes result }
 {
     if bytes % 4 == 0 {
-        Ok(bytes / 4)
+        Some(bytes / 4)
     } else {
-        Err(AllocError)
+        None
     }
 }
 
 /// How far the elements of a type are apart: in a buffer by their stride in bytes, and else by their words.
-fn stride_of(places: &Ground, in_buffer: bool, of: u32, bytes: u32) -> Result<u32, AllocError>
-    ensures { IfOk result (λ n. IsStrideOf places.now.places.code in_buffer of bytes n) }
+fn stride_of(
+    places: &Ground,
+    in_buffer: bool,
+    of: u32,
+    bytes: u32,
+) -> Result<Option<u32>, AllocError>
+    ensures { IfOk result (IsStrideIf places.now.places.code in_buffer of bytes) }
 {
     if in_buffer {
-        in_words(bytes)
+        Ok(in_words(bytes))
     } else {
-        width_of(places, of)
+        Ok(Some(width_of(places, of)?))
     }
 }
 
@@ -82,11 +88,14 @@ fn element_step(
     extent: Extent,
     bytes: u32,
     id: u32,
-) -> Result<Step, AllocError>
+) -> Result<Option<Step>, AllocError>
     requires valid { IsOfValid places.now.places.code }
-    ensures { IfOk result (λ step. IsElementStep places.now.places.code (rooms_of places.now) in_buffer of extent bytes id step) }
+    ensures { IfOk result (IsElementStepIf places.now.places.code (rooms_of places.now) in_buffer of extent bytes id) }
 {
-    let stride = stride_of(places, in_buffer, of, bytes)?;
+    let stride = match stride_of(places, in_buffer, of, bytes)? {
+        Some(stride) => stride,
+        None => return Ok(None),
+    };
     let signed = is_signed(places, id)?;
     let slot = places.slot(id);
     let index = Index {
@@ -95,58 +104,54 @@ fn element_step(
         stride,
         signed,
     };
-    Ok(Step::Element { index, type_id: of })
-}
-
-/// The type of a struct's member.
-fn member_type(places: &Ground, type_id: u32, number: u32) -> Result<u32, AllocError>
-    ensures { IfOk result (λ of. slice_get (drop 1 (operands places.now.places.code type_id)) number ≡ Some of) }
-{
-    match places.declarations().operands(type_id) {
-        [_, members @ ..] => match members.get(number as usize) {
-            Some(of) => Ok(*of),
-            None => Err(AllocError),
-        },
-        _ => Err(AllocError),
-    }
+    Ok(Some(Step::Element { index, type_id: of }))
 }
 
 /// The member of a struct in a buffer.
-fn buffer_member(places: &Ground, type_id: u32, number: u32) -> Result<Step, AllocError>
+fn buffer_member(places: &Ground, type_id: u32, number: u32) -> Result<Option<Step>, AllocError>
     requires valid { IsOfValid places.now.places.code }
     ensures { (id : ℕ) → number ≡ or_zero (constant_number places.now.places.code id) → sort places.now.places.code type_id ≡ Sort.StructType
-        → IfOk result (IsStep places.now.places.code (rooms_of places.now) true type_id id) }
+        → IfOk result (IsStepIf places.now.places.code (rooms_of places.now) true type_id id) }
 {
     let bytes = places
         .declarations()
         .decorations()
         .offset(type_id, number as usize);
-    let offset = in_words(bytes)?;
     let of = member_type(places, type_id, number)?;
-    Ok(Step::Member {
-        offset,
-        type_id: of,
-    })
+    match in_words(bytes) {
+        Some(offset) => Ok(Some(Step::Member {
+            offset,
+            type_id: of,
+        })),
+        None => Ok(None),
+    }
 }
 
 /// The member of a struct in a variable.
-fn room_member(places: &Ground, type_id: u32, number: u32) -> Result<Step, AllocError>
+fn room_member(places: &Ground, type_id: u32, number: u32) -> Result<Option<Step>, AllocError>
     requires valid { IsOfValid places.now.places.code }
+    requires rows { HasRows places.now }
     ensures { (id : ℕ) → number ≡ or_zero (constant_number places.now.places.code id) → sort places.now.places.code type_id ≡ Sort.StructType
-        → IfOk result (IsStep places.now.places.code (rooms_of places.now) false type_id id) }
+        → IfOk result (IsStepIf places.now.places.code (rooms_of places.now) false type_id id) }
 {
     let part = member(places, type_id, number)?;
-    Ok(Step::Member {
+    Ok(Some(Step::Member {
         offset: part.place,
         type_id: part.type_id,
-    })
+    }))
 }
 
 /// The member of a struct that a constant numbers.
-fn member_step(places: &Ground, in_buffer: bool, type_id: u32, id: u32) -> Result<Step, AllocError>
+fn member_step(
+    places: &Ground,
+    in_buffer: bool,
+    type_id: u32,
+    id: u32,
+) -> Result<Option<Step>, AllocError>
     requires valid { IsOfValid places.now.places.code }
+    requires rows { HasRows places.now }
     ensures { sort places.now.places.code type_id ≡ Sort.StructType
-        → IfOk result (IsStep places.now.places.code (rooms_of places.now) in_buffer type_id id) }
+        → IfOk result (IsStepIf places.now.places.code (rooms_of places.now) in_buffer type_id id) }
 {
     let number = number_of(places, id)?;
     if in_buffer {
@@ -156,15 +161,17 @@ fn member_step(places: &Ground, in_buffer: bool, type_id: u32, id: u32) -> Resul
     }
 }
 
-/// Where an index leads from a type.
+/// Where an index leads from a type, if a run can go there: it goes to no elements of an array without length but those of a
+/// buffer, and to nothing in a buffer that stands at no whole word.
 pub fn step_from(
     places: &Ground,
     in_buffer: bool,
     type_id: u32,
     id: u32,
-) -> Result<Step, AllocError>
+) -> Result<Option<Step>, AllocError>
     requires valid { IsOfValid places.now.places.code }
-    ensures { IfOk result (IsStep places.now.places.code (rooms_of places.now) in_buffer type_id id) }
+    requires rows { HasRows places.now }
+    ensures { IfOk result (IsStepIf places.now.places.code (rooms_of places.now) in_buffer type_id id) }
 {
     let declarations = places.declarations();
     let of = declarations.operand(type_id, 1);
@@ -182,6 +189,7 @@ pub fn step_from(
             let bytes = declarations.decorations().stride(type_id);
             element_step(places, in_buffer, of, Extent::Whole, bytes, id)
         }
+        Sort::RuntimeArrayType => Ok(None),
         Sort::StructType => member_step(places, in_buffer, type_id, id),
         _ => Err(AllocError),
     }

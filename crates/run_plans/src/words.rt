@@ -1,7 +1,8 @@
 // The words with which a run begins.
 
-ghost use Rattle.std.specs.Prelude.{◌≡◌, ◌&&◌, nat_eq, ◌+◌, ◌≤◌, true, [], ◌∷◌, IfOk, OnOk, Some, length, replicate};
+ghost use Rattle.std.specs.Prelude.{◌≡◌, ◌&&◌, nat_eq, ◌+◌, ◌≤◌, true, [], ◌∷◌, IfOk, IfSome, OnOk, Some, length, replicate};
 ghost use Rattle.flat_values.specs.Ranges.{written};
+ghost use Rattle.run_plans.specs.Buffers.{AreBounds, IsPlaceOf};
 ghost use Rattle.run_plans.specs.Ground.{rooms_of};
 ghost use Rattle.run_plans.specs.Values.{value_words, variable_words, number_of, IsWritten, IsWrittenIf};
 ghost use Rattle.run_plans.specs.Plans.{IsSteady};
@@ -10,7 +11,7 @@ ghost use Rattle.run_rooms.specs.Rooms.{AreRooms};
 ghost use Rattle.image_lookup.specs.Sorts.{sort_of, is_value_sort};
 
 use crate::actions::function_behind;
-use crate::base::Ground;
+use crate::base::{Bound, Ground};
 use crate::buffers::{is_buffer, literal_of};
 use crate::calls::word_of;
 use crate::parts::{slot_size, width_of};
@@ -37,20 +38,39 @@ fn zeros(alloc: Global, count: u32) -> Result<Vec<u32>, AllocError>
     Ok(words)
 }
 
-/// The number of the buffer with a set and a binding.
-fn number_of(base: &Ground, set: u32, binding: u32) -> usize
-    ensures { result ≡ number_of base.now.buffers set binding }
+/// The place of the buffer with a set and a binding among these, which ascend.
+fn place_among(bounds: &[Bound], set: u32, binding: u32) -> Option<usize>
+    ensures { IfSome result (IsPlaceOf bounds.now set binding) }
 {
-    for (number, bound) in base.buffers.as_slice().iter().enumerate() {
-        if bound.set == set && bound.binding == binding {
-            return number;
-        }
+    let least = Bound {
+        set,
+        binding,
+        words: 0,
+    };
+    let place = match bounds.binary_search(&least) {
+        Ok(place) => place,
+        Err(place) => place,
+    };
+    match bounds.get(place) {
+        Some(bound) if bound.set == set && bound.binding == binding => Some(place),
+        _ => None,
     }
-    base.buffers.len()
+}
+
+/// The number of the buffer with a set and a binding.
+fn number_of(base: &Ground, set: u32, binding: u32) -> Result<u32, AllocError>
+    requires bounds { AreBounds base.now.places.code base.now.buffers }
+    ensures { IfOk result (λ n. n ≡ number_of base.now.buffers set binding) }
+{
+    match place_among(base.buffers.as_slice(), set, binding) {
+        Some(place) => word_of(place),
+        None => Err(AllocError),
+    }
 }
 
 /// The words of a variable outside of functions: a pointer to a built-in value, or into a buffer.
 fn variable_words(alloc: Global, base: &Ground, id: u32, class: u32) -> Result<Vec<u32>, AllocError>
+    requires bounds { AreBounds base.now.places.code base.now.buffers }
     ensures { IfOk result (λ words. variable_words base.now.places.code (rooms_of base.now) base.now.buffers id class ≡ Some words.items) }
 {
     let declarations = base.declarations();
@@ -62,7 +82,7 @@ fn variable_words(alloc: Global, base: &Ground, id: u32, class: u32) -> Result<V
     }
     let set = literal_of(declarations, id, 34);
     let binding = literal_of(declarations, id, 33);
-    let number = word_of(number_of(base, set, binding))?;
+    let number = number_of(base, set, binding)?;
     let mut words = alone(alloc, number)?;
     words.push(0)?;
     Ok(words)
@@ -75,6 +95,7 @@ fn value_words(
     op: Op,
     operands: &[u32],
 ) -> Result<Vec<u32>, AllocError>
+    requires bounds { AreBounds base.now.places.code base.now.buffers }
     ensures { IfOk result (λ words. value_words base.now.places.code (rooms_of base.now) base.now.buffers op operands.now ≡ Some words.items) }
 {
     match (op, operands) {
@@ -109,6 +130,7 @@ fn write_value(
     words: &mut [u32],
     instruction: &Instruction,
 ) -> Result<(), AllocError>
+    requires bounds { AreBounds base.now.places.code base.now.buffers }
     ensures { OnOk result (IsWritten base.now.places.code (rooms_of base.now) base.now.buffers instruction.now words.old words.new) }
 {
     let operands = instruction.operands.as_slice();
@@ -136,6 +158,7 @@ fn write_outside(
     function: usize,
     instruction: &Instruction,
 ) -> Result<(), AllocError>
+    requires bounds { AreBounds base.now.places.code base.now.buffers }
     ensures { OnOk result (IsWrittenIf (nat_eq function 0 && is_value_sort (sort_of instruction.now.op)) base.now.places.code (rooms_of base.now)
         base.now.buffers instruction.now words.old words.new) }
 {
@@ -150,6 +173,7 @@ fn write_outside(
 fn write_all(alloc: Global, base: &Ground, words: &mut [u32]) -> Result<(), AllocError>
     requires valid { IsOfValid base.now.places.code }
     requires rooms { AreRooms base.now.places.code (rooms_of base.now) }
+    requires bounds { AreBounds base.now.places.code base.now.buffers }
     requires empty { words.old ≡ replicate (rooms_of base.now).total 0 }
     ensures { OnOk result (IsSteady base.now.places.code (rooms_of base.now) words.new) }
 {
@@ -165,6 +189,7 @@ fn write_all(alloc: Global, base: &Ground, words: &mut [u32]) -> Result<(), Allo
 pub fn first_words(alloc: Global, base: &Ground) -> Result<Vec<u32>, AllocError>
     requires valid { IsOfValid base.now.places.code }
     requires rooms { AreRooms base.now.places.code (rooms_of base.now) }
+    requires bounds { AreBounds base.now.places.code base.now.buffers }
     ensures { IfOk result (λ words. IsSteady base.now.places.code (rooms_of base.now) words.items) }
 {
     let mut words = zeros(alloc, base.total())?;

@@ -1,6 +1,6 @@
 // The places of all values of a run.
 
-ghost use Rattle.std.specs.Prelude.{◌≡◌, ℕ, [], List, IfOk};
+ghost use Rattle.std.specs.Prelude.{◌≡◌, ℕ, [], List, IfOk, is_some};
 ghost use Rattle.spirv_words.specs.Machine.{if_some};
 ghost use Rattle.flat_values.specs.Flat.{width};
 ghost use Rattle.image_facts.specs.Operands.{shape};
@@ -127,6 +127,13 @@ impl<'a> Places<'a> {
         ensures { result ≡ in_word (size_of self.now.code id) }
     {
         size_of(self.declarations.definitions(), &self.widths, id)
+    }
+
+    /// Whether an id is a type with a shape.
+    pub fn has_shape(&self, id: u32) -> bool
+        ensures { result ≡ is_some (shape self.now.code id) }
+    {
+        self.widths.has(id)
     }
 
     /// How many words the values of a type have, if 32 bits tell it; none for a pointer.

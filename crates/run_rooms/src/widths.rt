@@ -1,6 +1,6 @@
 // How many words values take, by their types, as the declarations of an image tell it.
 
-ghost use Rattle.std.specs.Prelude.{◌≡◌, ℕ, ◌≤◌, ◌^◌, IfOk, OnOk, min, List, nat_eq};
+ghost use Rattle.std.specs.Prelude.{◌≡◌, ℕ, ◌≤◌, ◌^◌, IfOk, OnOk, is_some, min, List, nat_eq};
 ghost use Rattle.std.specs.HashMap.{get};
 ghost use Rattle.std.specs.Option.{option_map};
 ghost use Rattle.spirv_words.specs.declared.images.Instruction.{Instruction};
@@ -293,6 +293,13 @@ impl Widths {
             add(&mut widths, instruction)?;
         }
         Ok(widths)
+    }
+
+    /// Whether an id is a type with a shape.
+    pub fn has(&self, id: u32) -> bool
+        ensures { (g : Globals) → Measures self.now g → result ≡ is_some (g.shapes id) }
+    {
+        type_at(self, id).is_some()
     }
 
     /// How many words the values of a type have, if 32 bits tell it; 0 for what is no type.

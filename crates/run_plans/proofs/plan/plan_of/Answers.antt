@@ -14,5 +14,5 @@ pub plan_on-requires-clause-rooms : goal.plan_on-requires-clause-rooms
 plan_on-requires-clause-rooms c =
     let code = c.in_ok-places.places.code in
     let pairs = map pair_of c.in_ok-buffers.buffers in
-    opened code (record { places = c.in_ok-places.places; buffers = c.in_ok-buffers.buffers })
+    opened code (record { places = c.in_ok-places.places; buffers = c.in_ok-buffers.buffers; members = c.in_ok-members.members })
     (subst (λ (is : List Instruction). AreRooms is (rooms_in c.in_ok-places.places pairs)) (sym c.in_ok-places.ensures.code) (c.in_ok-places.ensures.rooms pairs))

@@ -4,7 +4,7 @@ use Rattle.image_declarations.specs.Types.{length_of}
 use Rattle.image_declarations.specs.Decorations.{stride_of}
 use Rattle.run_plans.specs.Ground.{rooms_of}
 use Rattle.run_plans.proofs.Facts.{vector_shape, array_shape, runtime_shape}
-use Rattle.run_plans.proofs.Walking.{repeated_steps, unbounded_steps}
+use Rattle.run_plans.proofs.Walking.{repeated_steps, unbounded_steps, unbounded_outside}
 use Rattle.run_plans.proofs.steps.step_from.Goals as goal
 
 pub returns-in-VectorType : goal.returns-in-VectorType
@@ -27,3 +27,10 @@ returns-in-RuntimeArrayType c =
     let t = c.args.type_id in
     unbounded_steps code (rooms_of c.args.places.now) c.args.in_buffer t c.args.id _ c.if-in_buffer.true
     (runtime_shape code c.requires.valid t (grind arith)) (grind arith)
+
+pub returns-in-RuntimeArrayType-2 : goal.returns-in-RuntimeArrayType-2
+returns-in-RuntimeArrayType-2 c =
+    let code = c.args.places.now.places.code in
+    let t = c.args.type_id in
+    unbounded_outside code (rooms_of c.args.places.now) c.args.in_buffer t c.args.id c.if-in_buffer.false
+    (runtime_shape code c.requires.valid t (grind arith))
