@@ -1,6 +1,6 @@
 // The tokens of a text, read one after the other.
 
-ghost use Rattle.std.specs.Prelude.{◌≡◌, ◌<◌, ◌≤◌, ◌-◌, length, drop, IfSome};
+ghost use Rattle.std.specs.Prelude.{◌≡◌, ◌<◌, ◌≤◌, ◌-◌, max, length, drop, IfSome};
 ghost use Rattle.std.specs.Option.{option_map};
 ghost use Rattle.slang_reading.specs.Lexed.{lexed_all, token_of, bytes_at};
 ghost use Rattle.slang_reading.specs.Reading.{first, place_of};
@@ -115,6 +115,15 @@ impl<'a> Tokens<'a> {
         ensures { self.new ≡ moved self.old at }
     {
         self.at = at;
+    }
+
+    /// So many tokens have been looked at.
+    pub fn look_to(&mut self, seen: usize)
+        ensures { self.new ≡ record self.old { seen = max self.old.seen seen } }
+    {
+        if self.seen < seen {
+            self.seen = seen;
+        }
     }
 
     /// The index of the last token that was looked at.

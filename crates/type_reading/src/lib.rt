@@ -20,6 +20,7 @@ pub use leaves::{bracketed, expect, name};
 pub use limits::{LANGUAGE, Limits};
 pub use scanning::scan_arguments;
 pub use starts::begins_type;
+pub use steps::{Awaited, Open, Step, step_of};
 
 #[cfg(test)]
 mod tests;

@@ -1,0 +1,5 @@
+pub mod Knowledge
+pub mod OpenBrackets
+pub mod Foreseen
+pub mod Listed
+pub mod Growth
