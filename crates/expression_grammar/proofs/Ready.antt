@@ -42,14 +42,14 @@ abbrev pub Ends : Option Lexed → Type 0
 Ends x = goes_on x ≡ false
 
 -- the parenthesis of a call
-abbrev Calls : Option Lexed → Type 0
+abbrev pub Calls : Option Lexed → Type 0
 Calls x = sees m.OpenParen x ≡ true
 
 -- the shortest expression that may stand wherever one may: a call of a number
-abbrev call_path : List Lexed
+abbrev pub call_path : List Lexed
 call_path = mark m.OpenParen ∷ mark m.CloseParen ∷ []
 
-abbrev zero_call : List Lexed
+abbrev pub zero_call : List Lexed
 zero_call = zero_number ∷ call_path
 
 calls_not_less : (x : Option Lexed) → Calls x → sees m.Less x ≡ false
@@ -306,7 +306,7 @@ module _ (small large : Limits) (wide : Roomier small large) where
           by true q = subst (λ a. Each Tame (primary_by large e inner t (k.Mark a))) (same_mark m.OpenParen mark q) (tame_paren t.place)
           by false q = subst (Each Tame) (sym (primary_other large e inner t mark q)) tt
 
-      each_primary : (x : Option Lexed) → Each Tame (primary_at large e inner x)
+      pub each_primary : (x : Option Lexed) → Each Tame (primary_at large e inner x)
       each_primary (Some t) = each_primary_by t t.kind
       each_primary None = tt
 
@@ -477,7 +477,7 @@ module _ (small large : Limits) (wide : Roomier small large) where
       by x true = tt
       by x false = tt
 
-  tame_leveled : (e l : ℕ) → Tame (leveled large e l)
+  pub tame_leveled : (e l : ℕ) → Tame (leveled large e l)
   unfolding leveled
   tame_leveled zero l = tame_nothing large l
   tame_leveled (suc e) l = tame_at_level e (leveled large e) (λ l. tame_leveled e l) l (l == suc loosest)
@@ -513,7 +513,7 @@ module _ (small large : Limits) (wide : Roomier small large) where
         by zero h = absurd (omega arith)
         by (suc n) h = finishes_more Ends Calls (chains large e q) (λ y c. ends_chain y c) (chain large e q) (mark m.OpenParen) (mark m.CloseParen ∷ []) refl refl (finishes_chain Ends) n x
 
-    finishes_postfix : Finishes Ends zero_call (postfix large e q)
+    pub finishes_postfix : Finishes Ends zero_call (postfix large e q)
     unfolding postfix
     finishes_postfix = finishes_bind Ends Calls (next (primary_at large e q)) (chain_rest large e q) call_path (λ rest c. refl) (zero_number ∷ []) finishes_primary finishes_chain_rest
 
@@ -735,12 +735,12 @@ module _ (small large : Limits) (wide : Roomier small large) where
         go (Some t) = by (Some t) t.kind
         go None = tt
 
-    ready_chain_rest : (x : Value) → Ready Ends call_path (chain_rest small d p x) (chain_rest large e q x)
+    pub ready_chain_rest : (x : Value) → Ready Ends call_path (chain_rest small d p x) (chain_rest large e q x)
     unfolding chain_rest
     ready_chain_rest x = ready_more Ends Calls (chains large e q) (λ y c. ends_chain y c) (chain large e q) (mark m.OpenParen) (mark m.CloseParen ∷ []) refl refl (finishes_chain e q Ends) (chain small d p) viable_chain small.turns large.turns
         (let h = wide.turns in omega (arith, h)) x
 
-    ready_postfix : Ready Ends zero_call (postfix small d p) (postfix large e q)
+    pub ready_postfix : Ready Ends zero_call (postfix small d p) (postfix large e q)
     unfolding postfix
     ready_postfix = ready_bind Ends Calls (zero_number ∷ []) call_path (next (primary_at small d p)) (next (primary_at large e q)) (chain_rest small d p) (chain_rest large e q) (λ rest c. refl) ready_primary ready_chain_rest
 
@@ -878,7 +878,7 @@ module _ (small large : Limits) (wide : Roomier small large) where
 -- ---- where nothing begins an expression
 
 module _ (limits : Limits) (d : ℕ) (inner : ℕ → Parser Value) where
-  refuses_word : (t : Lexed) (word : Word) → word_begins word ≡ false → (b : Option Builtin) → builtin_of word ≡ b → primary_word limits d inner t word b ≡ Refuse
+  pub refuses_word : (t : Lexed) (word : Word) → word_begins word ≡ false → (b : Option Builtin) → builtin_of word ≡ b → primary_word limits d inner t word b ≡ Refuse
   refuses_word t word g (Some b) e = let c : true ≡ false = sym (begins_builtin word b e) ∙ g in cc
   refuses_word t word g None e = by (word_of limits d inner word t)
     where

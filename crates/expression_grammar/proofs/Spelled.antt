@@ -268,12 +268,12 @@ module _ (ts : List Lexed) (limits : Limits) (d : ℕ) (inner : ℕ → Parser V
       go None e = tt
 
   -- behind a primary
-  post_chain_rest : (x : Value) (at seen : ℕ) → Post (λ y to. ChainAt ts x.0 y.0 at to) (chain_rest limits d inner x ts at seen)
+  pub post_chain_rest : (x : Value) (at seen : ℕ) → Post (λ y to. ChainAt ts x.0 y.0 at to) (chain_rest limits d inner x ts at seen)
   unfolding chain_rest ChainsAt
   post_chain_rest x at seen = post_turns ts (λ a b from to. ChainAt ts a.0 b.0 from to) ChainsAt (chains limits d inner) (chain limits d inner) (λ a at. ex.whole)
       (λ a b c from mid to o q. o c.0 to q) (λ a from seen1 e. post_chain a from seen1) limits.turns x at seen
 
-  post_postfix : (at seen : ℕ) → Post (λ x to. PostfixAt ts x.0 at to) (postfix limits d inner ts at seen)
+  pub post_postfix : (at seen : ℕ) → Post (λ x to. PostfixAt ts x.0 at to) (postfix limits d inner ts at seen)
   unfolding postfix IsPrimaryAt
   post_postfix at seen = post_bind ts (IsPrimaryAt at) (λ x to. PostfixAt ts x.0 at to) (next (primary_at limits d inner)) (chain_rest limits d inner) at seen
       (post_next ts (IsPrimaryAt at) (primary_at limits d inner) at seen (λ x e. post_primary_at at x e))

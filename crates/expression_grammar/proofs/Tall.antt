@@ -201,7 +201,7 @@ module _ (ts : List Lexed) (limits : Limits) (d : ℕ) where
     tall_chain_rest x at seen s = post_weaken (λ y to. StaysTall x y at to) Tall (λ y to r. r s) (turns (chains limits d inner) (chain limits d inner) limits.turns x ts at seen)
         (post_turns ts StaysTall StaysTall (chains limits d inner) (chain limits d inner) (λ a at s. s) (λ a b c from mid to o q s. q (o s)) (λ a from seen1 e. tall_chain a from seen1) limits.turns x at seen)
 
-    tall_postfix : (at seen : ℕ) → Post Tall (postfix limits d inner ts at seen)
+    pub tall_postfix : (at seen : ℕ) → Post Tall (postfix limits d inner ts at seen)
     unfolding postfix
     tall_postfix at seen = post_bind ts Tall Tall (next (primary_at limits d inner)) (chain_rest limits d inner) at seen (post_next ts Tall (primary_at limits d inner) at seen (λ x e. go x))
         (λ x mid seen1 r. tall_chain_rest x mid seen1 r)

@@ -212,7 +212,7 @@ module _ (small large : Limits) (wide : Wider small large) where
     unfolding project_rest
     ready_project_rest x = ready_last Ends (token k.Name ∷ []) (name small) (name large) (λ id. (typed (span x.0.place id.place) (n.Projection x.0 id), x.1 + 1)) (ready_name Ends)
 
-    viable_project : (x : Type_) → Viable Ends (project small d x) (project large e x)
+    pub viable_project : (x : Type_) → Viable Ends (project small d x) (project large e x)
     unfolding project
     viable_project x = viable_next Ends (λ t. project_by large e x t (sees m.Dot t)) (λ t. project_by small d x t (sees m.Dot t)) (mark m.Dot ∷ token k.Name ∷ [])
         (finishes_next_take Ends (λ t. project_by large e x t (sees m.Dot t)) (mark m.Dot) (token k.Name ∷ []) (project_rest large e x)
@@ -242,7 +242,7 @@ module _ (small large : Limits) (wide : Wider small large) where
         by t true = pair_in Ends t x.1 d e (Take (length_rest small d x)) (Take (length_rest large e x)) (ready_length_rest x).viable
         by t false = viable_pure Ends x
 
-    ready_type_rest : (x : Type_) → Ready Ends [] (type_rest small d x) (type_rest large e x)
+    pub ready_type_rest : (x : Type_) → Ready Ends [] (type_rest small d x) (type_rest large e x)
     unfolding type_rest
     ready_type_rest x = ready_bind Ends Ends [] [] (turns (sees m.Dot) (project small d) small.turns x) (turns (sees m.Dot) (project large e) large.turns x) (array small d) (array large e) (λ rest f. f)
         (ready_turns Ends Ends (sees m.Dot) (project small d) (project large e) small.turns large.turns x wide.turns (λ x f. f) (λ x f. f.1) viable_project)

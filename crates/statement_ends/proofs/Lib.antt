@@ -1,0 +1,13 @@
+pub mod Leading
+pub mod Foreseeing
+pub mod Roomy
+pub mod Attributes
+pub mod Operands
+pub mod Names
+pub mod Ahead
+pub mod AheadTwice
+pub mod Locals
+pub mod Changes
+pub mod Parts
+pub mod Statements
+pub mod Wrong
