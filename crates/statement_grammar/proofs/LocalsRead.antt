@@ -44,7 +44,7 @@ use Rattle.statement_grammar.proofs.Begins.{Closes, expr_begins, quiet_name}
 -- ---- declared names
 
 module _ (E : Type 0) (e : E) (ts : List Lexed) (limits : Limits) where
-  reads_lengths : {xs ys : List Term} {p q : Place} {from to : ℕ} → LengthsAt ts xs ys p q from to → (count seen : ℕ) → Reads E (turns (sees m.OpenBracket) (length_more limits) count (xs, p)) ts from seen (ys, q) to
+  pub reads_lengths : {xs ys : List Term} {p q : Place} {from to : ℕ} → LengthsAt ts xs ys p q from to → (count seen : ℕ) → Reads E (turns (sees m.OpenBracket) (length_more limits) count (xs, p)) ts from seen (ys, q) to
   unfolding length_more
   reads_lengths {xs = xs} {p = p} {from = from} (t.end n) count seen = reads_turns_end E ts (sees m.OpenBracket) (length_more limits) count (xs, p) from seen n.is
   reads_lengths {xs = xs} {ys = ys} {p = last} {q = end} {from = from} {to = to} (t.more {p = p} s x c r) zero seen =
