@@ -1,0 +1,26 @@
+// Laws of the descent against the grammar, each the contract of a function that does nothing.
+
+ghost use Rattle.std.specs.Prelude.{◌≡◌, ◌+◌, ◌<◌, ◌≤◌, ◌++◌, List, ℕ, length, take};
+ghost use Rattle.slang_tree.specs.declared.file.File.{File};
+ghost use Rattle.slang_reading.specs.Lexed.{Lexed};
+ghost use Rattle.slang_reading.specs.Reading.{Done, Stop};
+ghost use Rattle.slang_grammar.specs.Descent.{Limits};
+ghost use Rattle.declaration_grammar.specs.Declarations.{FileAt};
+ghost use Rattle.declaration_grammar.specs.DeclarationsDescent.{files};
+
+/// Of whole files: where the descent stops at a token, some file begins with the tokens before it, and none with that token
+/// too, whatever the limits. Where it stops behind the last token, `at` is how many tokens there are, and so some file begins
+/// with all of them.
+pub fn files_go_on()
+    ensures goes_on { (ts : List Lexed) (limits : Limits) (nodes at : ℕ) → files limits nodes ts 0 0 ≡ Stop (at + 1)
+        → (more : List Lexed) × (x : File) × FileAt (take at ts ++ more) x }
+    ensures within { (ts : List Lexed) (limits : Limits) (nodes at : ℕ) → files limits nodes ts 0 0 ≡ Stop (at + 1) → at ≤ length ts }
+    ensures goes_no_further { (ts : List Lexed) (limits : Limits) (nodes at : ℕ) (more : List Lexed) (x : File)
+        → files limits nodes ts 0 0 ≡ Stop (at + 1) → at < length ts → FileAt (take (at + 1) ts ++ more) x → ⊥ }
+{}
+
+/// What the descent answers of a whole text is spelled, whatever the limits.
+pub fn files_are_spelled()
+    ensures of_files { (ts : List Lexed) (limits : Limits) (nodes seen to seen1 : ℕ) (x : File)
+        → files limits nodes ts 0 seen ≡ Done x to seen1 → FileAt ts x }
+{}

@@ -1,0 +1,6 @@
+//! Laws of where the descent into a whole file stops.
+#![tactic(auto)]
+
+mod laws;
+
+pub use laws::{files_are_spelled, files_go_on};
