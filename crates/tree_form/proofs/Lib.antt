@@ -1,0 +1,3 @@
+pub mod Loops
+pub mod WithinSums
+pub mod Shaders
