@@ -1,0 +1,12 @@
+pub mod Depths
+pub mod Types
+pub mod Expressions
+pub mod TypesLow
+pub mod ExpressionsLow
+pub mod Reading
+pub mod Initials
+pub mod Trees
+pub mod Locals
+pub mod Statements
+pub mod Declarations
+pub mod Files
