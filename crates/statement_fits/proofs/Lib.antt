@@ -1,0 +1,10 @@
+pub mod Fitting
+pub mod Moves
+pub mod Locals
+pub mod Operands
+pub mod Changes
+pub mod Ahead
+pub mod Attributes
+pub mod Parts
+pub mod Nodes
+pub mod Statements
