@@ -1,0 +1,10 @@
+pub mod Sizes
+pub mod Types
+pub mod Expressions
+pub mod Attributes
+pub mod Within
+pub mod Locals
+pub mod Statements
+pub mod Parts
+pub mod Members
+pub mod Files
