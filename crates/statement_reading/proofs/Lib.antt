@@ -1,0 +1,2 @@
+mod Treeless
+mod Foreseen
