@@ -3,4 +3,4 @@
 
 mod laws;
 
-pub use laws::{files_are_spelled, files_go_on};
+pub use laws::{files_are_spelled, files_go_on, limits_go_on};

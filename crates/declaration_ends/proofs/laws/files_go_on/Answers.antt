@@ -1,4 +1,5 @@
-use Rattle.declaration_ends.proofs.Wrong.{stops_within, files_go_on, no_file}
+use Rattle.slang_reading.specs.Reading.{Stop}
+use Rattle.declaration_ends.proofs.Wrong.{looked, stops_within, files_go_on, no_file}
 use Rattle.declaration_ends.proofs.laws.files_go_on.Goals as goal
 
 pub returns-clause-goes_on : goal.returns-clause-goes_on
@@ -9,3 +10,6 @@ returns-clause-within c = λ ts limits nodes at e. stops_within ts limits nodes 
 
 pub returns-clause-goes_no_further : goal.returns-clause-goes_no_further
 returns-clause-goes_no_further c = λ ts limits nodes at more x e lt s. no_file ts limits nodes at more x e lt s
+
+pub returns-clause-looked : goal.returns-clause-looked
+returns-clause-looked c = λ ts limits nodes seen e. looked ts limits nodes (Stop seen) e
