@@ -1,6 +1,4 @@
 pub mod Words
-pub mod Tokens
 pub mod Shaders
-pub mod Grammar
-pub mod Reading
-pub mod Lexemes
+pub mod Finding
+pub mod Sizes

@@ -1,5 +1,5 @@
 -- Which shaders are of the first form.
-use Rattle.std.specs.Prelude.{◌≢◌, ◌≤◌, ◌<◌, ◌*◌, ◌^◌, length, IsTrue}
+use Rattle.std.specs.Prelude.{Bool, ◌&&◌, ◌≢◌, ◌≤◌, ◌<◌, ◌*◌, ◌^◌, nat_le, length, IsTrue}
 use Rattle.std.specs.List.{AllByRecursion}
 use Rattle.first_form.specs.declared.shader.Shader.{Shader}
 use Rattle.first_form.specs.declared.shader.GroupSize.{GroupSize}
@@ -18,6 +18,12 @@ pub record IsGroup (g : GroupSize) : Type 0 where
   pub some_z : 1 ≤ g.z
   pub most_z : g.z ≤ 64
   pub most : g.x * g.y * g.z ≤ 1024
+
+-- the same, as a test
+abbrev pub is_group : GroupSize → Bool
+is_group g =
+    nat_le 1 g.x && nat_le g.x 1024 && nat_le 1 g.y && nat_le g.y 1024 && nat_le 1 g.z && nat_le g.z 64
+    && nat_le (g.x * g.y * g.z) 1024
 
 abbrev pub IsItem : Item → Type 0
 IsItem (Number n) = n < 2 ^ 32

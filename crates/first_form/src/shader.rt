@@ -1,4 +1,4 @@
-// What a text of the first form says.
+// What a file of the first form is.
 
 use slang_tree::Name;
 use sqlite_items::Items;

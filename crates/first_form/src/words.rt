@@ -4,7 +4,6 @@ ghost use Rattle.std.specs.Prelude.{◌≡◌};
 ghost use Rattle.std.specs.List.{list_any};
 ghost use Rattle.std.specs.Str.{bytes_eq};
 ghost use Rattle.first_form.specs.Words as spec;
-ghost use Rattle.slang_tree.specs.Letters as letters;
 
 use slang_tree::is_name;
 use slang_tree::limits::NAME_BYTES;
@@ -198,7 +197,7 @@ fn is_one_of(words: &[&str], word: &[u8]) -> bool
 
 /// Whether the word is one of the language, with a use or refused.
 #[tactic(auto, unfolding(crate::specs::Words::is_reserved))]
-pub fn is_reserved(word: &[u8]) -> bool
+fn is_reserved(word: &[u8]) -> bool
     ensures { result ≡ spec.is_reserved word.now }
 {
     is_one_of(&USED, word)
@@ -206,13 +205,6 @@ pub fn is_reserved(word: &[u8]) -> bool
         || is_one_of(&TEXTURES, word)
         || is_one_of(&UNSUPPORTED, word)
         || is_one_of(&INTEGER_MATRICES, word)
-}
-
-/// Whether it is a decimal digit.
-pub fn is_digit(b: u8) -> bool
-    ensures { result ≡ letters.is_digit b }
-{
-    b >= b'0' && b <= b'9'
 }
 
 /// Whether a shader's own things may be called so: a name of at most 64 bytes that is no word of the language.

@@ -11,7 +11,7 @@ use Rattle.first_form.specs.declared.shader.Statement.{Statement}
 use Rattle.first_form.specs.declared.shader.Sum.{Sum}
 use Rattle.first_form.specs.declared.shader.Item.{Item}
 use Rattle.first_form.specs.declared.shader.Item.TheVariants.{Number, X}
-use Rattle.first_form.specs.Grammar.{item_bytes, sum_bytes, statement_bytes}
+use Rattle.first_form.specs.Sizes.{item_bytes, sum_bytes, statement_bytes}
 use Rattle.first_form.specs.Shaders.{IsShader}
 use Rattle.first_image.specs.Templates.{ins, Tables, Code, item_code, more_code, sum_code, statement_code, statements_code}
 use Rattle.first_image.specs.Sections.{beginning, plain_types, constants_code, pointer_types, nulls}

@@ -9,8 +9,6 @@ mod numbers;
 mod output;
 mod sections;
 mod spelling;
-#[cfg(test)]
-mod tests;
 
 pub use emitting::emit;
 pub use laws::words_mean_source;

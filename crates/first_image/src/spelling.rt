@@ -4,7 +4,7 @@ ghost use Rattle.std.specs.Prelude.{◌+◌, ◌*◌, ◌≤◌, ℕ, List, leng
 ghost use Rattle.spirv_words.specs.Strings.{IsText};
 ghost use Rattle.spirv_words.specs.Words.{image_words, CanBeSpelled};
 ghost use Rattle.first_form.specs.declared.shader.Shader.{Shader};
-ghost use Rattle.first_form.specs.Grammar.{statement_bytes};
+ghost use Rattle.first_form.specs.Sizes.{statement_bytes};
 ghost use Rattle.first_form.specs.Shaders.{IsShader};
 ghost use Rattle.first_image.specs.Image.{image_of};
 

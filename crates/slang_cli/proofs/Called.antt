@@ -1,5 +1,5 @@
 -- How a call goes that comes to no answer.
-use Rattle.std.proofs.Common.{◌≡◌, List, [], Option, Some, None, sym, ◌∙◌, subst}
+use Rattle.std.proofs.Common.{◌≡◌, [], Option, Some, None, sym, ◌∙◌, subst}
 use Rattle.slang_store.specs.Counts.{Rose}
 use Rattle.slang_outcomes.specs.declared.outcome.Outcome.{Outcome}
 use Rattle.slang_outcomes.specs.declared.outcome.Outcome.TheVariants.{Words, ReadFault, Memory}

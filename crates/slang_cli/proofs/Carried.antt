@@ -1,5 +1,5 @@
 -- From what was read and made to the command's answer.
-use Rattle.std.proofs.Common.{◌≡◌, ℕ, suc, ◌+◌, ◌<◌, List, length, replicate, Option, Some, None, refl, sym, subst, arith}
+use Rattle.std.proofs.Common.{◌≡◌, ℕ, ◌+◌, ◌<◌, List, length, replicate, Some, None, refl, sym, subst, arith}
 use Rattle.slang_tree.specs.declared.names.Ref.{Ref}
 use Rattle.slang_store.specs.declared.files.Found.{Found}
 use Rattle.slang_store.specs.declared.files.Found.TheVariants.{Bytes, Absent, TooLong}
@@ -8,8 +8,9 @@ use Rattle.run_command.specs.Requests.{RunRequest}
 use Rattle.run_command.specs.Answers.{Came, Comes}
 use Rattle.run_command.specs.Answers as came
 use Rattle.slang_cli.proofs.Told.{if_puts}
-use Rattle.slang_cli.specs.Commands.{Request, Compile, Run, text_name}
-use Rattle.slang_cli.specs.Answers.{Answer, Compiles, absent, too_long, not_yet, no_entry, puts, outcome_of, answer_of, ImageIsTold, IfPuts, text_limit}
+use Rattle.slang_cli.specs.Commands.{Compile, Run, text_name}
+use Rattle.slang_cli.specs.Answers.{Answer, Compiles, absent, not_parsed, not_yet, no_entry, puts, outcome_of, answer_of, ImageIsTold, IfPuts}
+use Rattle.slang_parse.specs.Parsing.{text_limit}
 use Rattle.slang_store.specs.Finds.{IsFound}
 use Rattle.slang_cli.specs.Outside.{FilesNow, IsReal, IsTheAnswer}
 use Rattle.std.proofs.lemmas.List.{length-replicate}
@@ -25,10 +26,10 @@ some_contents limit name TooLong =
 
 compiles_real : (m : Contents) (entry : Ref) (image home : List ℕ) {a : Answer} → Compiles m entry image home a → IsReal (outcome_of a)
 compiles_real m entry image home (absent h) = tt
-compiles_real m entry image home (too_long h l) = tt
-compiles_real m entry image home (not_yet h l f) = tt
-compiles_real m entry image home (no_entry h l f n) = tt
-compiles_real m entry image home (puts h l f e) = tt
+compiles_real m entry image home (not_parsed h r) = tt
+compiles_real m entry image home (not_yet h s f) = tt
+compiles_real m entry image home (no_entry h f n) = tt
+compiles_real m entry image home (puts h f e) = tt
 
 pub the_answer : (entry : Ref) (image home : List ℕ) (f : FilesNow) (a : Answer) (found : Found) → ((m : Contents) → f.contents ≡ Some m → IsFound text_limit (m (text_name home)) found) → ((m : Contents) → IsFound text_limit (m (text_name home)) found → Compiles m entry image home a) → ((m : Contents) → IsFound text_limit (m (text_name home)) found → IfPuts a (ImageIsTold m home)) → IsTheAnswer (Compile entry image home) f a
 the_answer entry image home f a found held compiled told =

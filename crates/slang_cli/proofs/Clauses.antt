@@ -1,13 +1,13 @@
 -- What each clause of the call says, from how the call goes.
 use Rattle.std.proofs.Common.{◌≡◌, ◌≢◌, ◌⊎◌, inl, inr, ⊎_elim, ℕ, ◌≤◌, List, [], ◌++◌, Option, Some, None, refl, sym, ap, ◌∙◌, subst, append-nil, arith}
-use Rattle.slang_store.specs.Contents.{Contents, with_entry, Partly, IsPrefixOf}
+use Rattle.slang_store.specs.Contents.{Contents, with_entry, IsPrefixOf}
 use Rattle.slang_store.specs.Counts.{Rose}
 use Rattle.slang_outcomes.specs.declared.outcome.Outcome.{Outcome}
 use Rattle.slang_outcomes.specs.declared.outcome.Outcome.TheVariants.{Done, ModuleRefused, LinkRefused, Words, ReadFault, WriteFault, Memory, Undefined, Budget, Absent, FormRefused, ImageRefused, InputRefused}
 use Rattle.slang_cli.specs.Commands.{Request, asked, asked_of}
 use Rattle.slang_outcomes.specs.Lines.{refusal_line}
 use Rattle.slang_cli.specs.Answers.{Answer, Refuses, Puts, IsAnswer, outcome_of, printed, contents_after}
-use Rattle.slang_cli.specs.Outside.{FilesNow, SinkNow, TookAll, TookPart, IsHalt, IsReal, IsTheAnswer, Runs, halted, answered, cut}
+use Rattle.slang_cli.specs.Outside.{FilesNow, SinkNow, TookAll, IsHalt, IsReal, Runs, halted, answered, cut}
 use Rattle.slang_cli.specs.Calls.{WhereSettled, WhereRefused, Answered, PutInPart, MayHold, IsLine}
 
 -- ---- on statuses

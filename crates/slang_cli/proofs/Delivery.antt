@@ -1,5 +1,5 @@
 -- From what was put and printed to how the call goes.
-use Rattle.std.proofs.Common.{◌≡◌, ℕ, List, Option, Some, None, Result, Ok, Err, refl, ◌∙◌, subst}
+use Rattle.std.proofs.Common.{◌≡◌, ℕ, List, Some, Result, Err, refl, subst}
 use Rattle.slang_store.specs.declared.files.FileFault.{FileFault}
 use Rattle.slang_store.specs.declared.files.FileFault.TheVariants.{Failed, Memory as MemoryFault}
 use Rattle.std.specs.declared.alloc.AllocError.{AllocError}
@@ -10,7 +10,7 @@ use Rattle.slang_outcomes.specs.declared.outcome.Outcome.{Outcome}
 use Rattle.slang_outcomes.specs.declared.outcome.Outcome.TheVariants.{Done, WriteFault}
 use Rattle.slang_cli.specs.Commands.{Request, asked}
 use Rattle.slang_outcomes.specs.Lines.{refusal_line}
-use Rattle.slang_cli.specs.Answers.{Answer, Refuses, Puts}
+use Rattle.slang_cli.specs.Answers.{Refuses, Puts}
 use Rattle.slang_cli.specs.Outside.{FilesNow, SinkNow, Prints, IsTheAnswer, Runs, answered, cut}
 
 pub failed_is : {T : Type 0} (r : Result T FileFault) (P : Type 0) → r ≡ Err Failed → OnFailed r P → P

@@ -1,5 +1,5 @@
 -- From the command's answer to what the words that are put mean.
-use Rattle.std.proofs.Common.{◌≡◌, ◌⊎◌, ⊎_elim, ℕ, ◌≤◌, List, length, Option, Some, None, refl, sym, ◌∙◌, subst}
+use Rattle.std.proofs.Common.{◌≡◌, ⊎_elim, ℕ, ◌≤◌, List, length, Option, Some, None, refl, sym, ◌∙◌, subst}
 use Rattle.behavior.specs.Meanings.{Agree}
 use Rattle.slang_tree.specs.declared.names.Ref.{Ref}
 use Rattle.slang_store.specs.Contents.{Contents, with_entry}
@@ -8,13 +8,15 @@ use Rattle.spirv_words.specs.Words.{CanBeSpelled, image_words}
 use Rattle.spirv_words.specs.Runs.{words}
 use Rattle.spirv_check.specs.Valid.{Valid}
 use Rattle.first_form.specs.declared.shader.Shader.{Shader}
+use Rattle.slang_tree.specs.declared.file.File.{File}
 use Rattle.first_form.specs.Shaders.{IsShader}
+use Rattle.tree_form.specs.Forms.{form_of}
 use Rattle.first_image.specs.Source.{source}
 use Rattle.first_image.specs.Image.{image_of}
 use Rattle.slang_outcomes.specs.declared.outcome.Outcome.{Outcome}
 use Rattle.slang_outcomes.specs.declared.outcome.Outcome.TheVariants.{Done, WriteFault}
 use Rattle.slang_cli.specs.Commands.{Request, Compile}
-use Rattle.slang_cli.specs.Answers.{Answer, Compiles, absent, too_long, not_yet, no_entry, puts, IsAnswer, IsTold, ImageIsTold, IfPuts, outcome_of, contents_after}
+use Rattle.slang_cli.specs.Answers.{Answer, Compiles, absent, not_parsed, not_yet, no_entry, puts, IsAnswer, IsTold, ImageIsTold, IfPuts, outcome_of, contents_after}
 use Rattle.slang_cli.specs.Outside.{FilesNow, SinkNow, IsHalt, Runs, halted, answered, cut}
 use Rattle.slang_cli.specs.Calls.{Means}
 use Rattle.slang_cli.proofs.Told.{read_again}
@@ -24,6 +26,7 @@ pub record Laws : Type 0 where
   pub agree : (home : List ℕ) (shader : Shader) → Agree (source shader) (words (image_of home shader))
   pub spelled : (home : List ℕ) (shader : Shader) → IsText home → length home ≤ 64 → IsShader shader → CanBeSpelled (image_of home shader)
   pub valid : (home : List ℕ) (shader : Shader) → IsText home → length home ≤ 64 → IsShader shader → Valid (image_of home shader)
+  pub shader : (file : File) (shader : Shader) → form_of file ≡ Some shader → IsShader shader
   pub here : (m : Contents) (name bytes : List ℕ) → with_entry m name bytes name ≡ Some bytes
 
 halt_done : (c : Option Request) (f g : FilesNow) → IsHalt c f g Done → ⊥
@@ -33,10 +36,10 @@ halt_done (Some c) f g h = h
 module _ (laws : Laws) (m : Contents) (entry : Ref) (image home : List ℕ) (text : IsText home) (short : length home ≤ 64) where
   compiled_means : {a : Answer} → Compiles m entry image home a → IfPuts a (ImageIsTold m home) → outcome_of a ≡ Done → Means entry image home m (contents_after m a)
   compiled_means (absent p) told e = absurd cc
-  compiled_means (too_long p l) told e = absurd cc
-  compiled_means (not_yet p l f) told e = absurd cc
-  compiled_means (no_entry p l f n) told e = absurd cc
-  compiled_means (puts {text = t} {shader = s} p l f is_entry) told e = record {
+  compiled_means (not_parsed p r) told e = absurd cc
+  compiled_means (not_yet p s f) told e = absurd cc
+  compiled_means (no_entry p f n) told e = absurd cc
+  compiled_means (puts {text = t} {shader = s} p f is_entry) told e = let is_shader = laws.shader f.file s f.is in record {
     text = t;
     shader = s;
     made = image_of home s;
@@ -46,8 +49,8 @@ module _ (laws : Laws) (m : Contents) (entry : Ref) (image home : List ℕ) (tex
     entry_is = is_entry;
     made_is = refl;
     put = laws.here m image _;
-    spelled = record { can_be = laws.spelled home s text short f.is_shader; are = refl };
-    read_again = record { words = read_again home s (told t s p f) (laws.spelled home s text short f.is_shader); valid = laws.valid home s text short f.is_shader };
+    spelled = record { can_be = laws.spelled home s text short is_shader; are = refl };
+    read_again = record { words = read_again home s (told t s p f) (laws.spelled home s text short is_shader); valid = laws.valid home s text short is_shader };
     agree = laws.agree home s;
   }
 

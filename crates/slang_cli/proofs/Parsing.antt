@@ -1,5 +1,5 @@
 -- Which words are no command.
-use Rattle.std.proofs.Common.{◌≡◌, ◌≢◌, ℕ, ◌+◌, ◌<◌, List, [], ◌∷◌, length, map, Option, None, refl, arith}
+use Rattle.std.proofs.Common.{◌≡◌, ◌≢◌, ℕ, List, [], ◌∷◌, length, map, None, refl}
 use Rattle.slang_cli.specs.Commands.{compile_words}
 
 -- a compile has three words behind its verb

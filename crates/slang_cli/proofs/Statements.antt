@@ -3,8 +3,8 @@ use Rattle.std.proofs.Common.{ℕ, ◌*◌, ◌^◌, ◌<◌, ◌≤◌, List, [
 use Rattle.std.specs.List.{sum_by}
 use Rattle.std.proofs.lemmas.List.Sums.{sum_by-cons}
 use Rattle.first_form.specs.declared.shader.Statement.{Statement}
-use Rattle.first_form.specs.Grammar.{statement_bytes}
-use Rattle.slang_cli.specs.Answers.{text_limit}
+use Rattle.first_form.specs.Sizes.{statement_bytes}
+use Rattle.slang_parse.specs.Parsing.{text_limit}
 
 -- each takes five bytes at least
 least : (ss : List Statement) → 5 * length ss ≤ sum_by statement_bytes ss

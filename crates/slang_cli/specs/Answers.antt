@@ -1,14 +1,19 @@
 -- What the program answers, where memory and the outside hold.
-use Rattle.std.specs.Prelude.{◌≡◌, ◌≢◌, ◌⊎◌, ℕ, ◌<◌, ◌≤◌, ◌^◌, All, List, [], ◌∷◌, length, Option, Some, None}
+use Rattle.std.specs.Prelude.{◌≡◌, ◌⊎◌, ℕ, ◌<◌, ◌≤◌, ◌^◌, All, List, [], ◌∷◌, length, Some, None}
 use Rattle.std.specs.Fmt.{decimal}
 use Rattle.slang_tree.specs.declared.names.Ref.{Ref}
-use Rattle.slang_tree.specs.declared.codes.ModuleCode.TheVariants.{TooLong, NotYet}
+use Rattle.slang_tree.specs.declared.places.Place.{Place}
+use Rattle.slang_tree.specs.declared.codes.ModuleCode.{ModuleCode}
+use Rattle.slang_tree.specs.declared.codes.ModuleCode.TheVariants.{NotYet}
 use Rattle.slang_tree.specs.declared.faults.LinkCause.TheVariants.{NoEntry}
 use Rattle.slang_store.specs.Contents.{Contents, with_entry}
 use Rattle.spirv_words.specs.Words.{image_words}
 use Rattle.spirv_words.specs.Bytes.{bytes_of_words}
 use Rattle.first_form.specs.declared.shader.Shader.{Shader}
-use Rattle.first_form.specs.Grammar.{FirstForm}
+use Rattle.slang_cli.specs.Texts.{FirstForm}
+use Rattle.slang_tree.specs.declared.file.File.{File}
+use Rattle.slang_parse.specs.Parsing.{Spells, IsRefused}
+use Rattle.tree_form.specs.Forms.{form_of}
 use Rattle.first_image.specs.Image.{image_of}
 use Rattle.slang_outcomes.specs.declared.outcome.Outcome.{Outcome}
 use Rattle.slang_outcomes.specs.declared.outcome.Outcome.TheVariants.{Done, ModuleRefused, LinkRefused, Undefined, Budget, Absent, ImageRefused, InputRefused}
@@ -56,23 +61,17 @@ OfShader entry image home shader answer =
     (IsEntry entry home shader × (answer ≡ puts_image image home shader))
     ⊎ ((IsEntry entry home shader → ⊥) × (answer ≡ Refuses (LinkRefused (NoEntry entry))))
 
--- how many bytes a text may have
-abbrev pub text_limit : ℕ
-text_limit = 1048576
-
--- what compile answers over what the files hold: the text is read; it may be too long; it may not be of the first form;
--- the entry may not be its entry; and else its image's words are put, as bytes
+-- what compile answers over what the files hold: the text is read; it may spell no file within the limits; the file may not
+-- be of the first form; the entry may not be its entry; and else its image's words are put, as bytes
 pub data Compiles (m : Contents) (entry : Ref) (image home : List ℕ) : Answer → Type 0 where
   absent : m (text_name home) ≡ None → Compiles m entry image home (Refuses (Absent (text_name home)))
-  too_long : {text : List ℕ} → m (text_name home) ≡ Some text → text_limit < length text →
-      Compiles m entry image home (Refuses (ModuleRefused home (record { start = text_limit; end = text_limit }) TooLong))
-  not_yet : {text : List ℕ} → m (text_name home) ≡ Some text → length text ≤ text_limit →
-      ((shader : Shader) → FirstForm text shader → ⊥) →
+  not_parsed : {text : List ℕ} {place : Place} {code : ModuleCode} → m (text_name home) ≡ Some text → IsRefused text place code →
+      Compiles m entry image home (Refuses (ModuleRefused home place code))
+  not_yet : {text : List ℕ} {file : File} → m (text_name home) ≡ Some text → Spells text file → form_of file ≡ None →
       Compiles m entry image home (Refuses (ModuleRefused home (record { start = 0; end = 0 }) NotYet))
-  no_entry : {text : List ℕ} {shader : Shader} → m (text_name home) ≡ Some text → length text ≤ text_limit →
-      FirstForm text shader → (IsEntry entry home shader → ⊥) → Compiles m entry image home (Refuses (LinkRefused (NoEntry entry)))
-  puts : {text : List ℕ} {shader : Shader} → m (text_name home) ≡ Some text → length text ≤ text_limit →
-      FirstForm text shader → IsEntry entry home shader →
+  no_entry : {text : List ℕ} {shader : Shader} → m (text_name home) ≡ Some text → FirstForm text shader → (IsEntry entry home shader → ⊥) →
+      Compiles m entry image home (Refuses (LinkRefused (NoEntry entry)))
+  puts : {text : List ℕ} {shader : Shader} → m (text_name home) ≡ Some text → FirstForm text shader → IsEntry entry home shader →
       Compiles m entry image home (puts_image image home shader)
 
 -- ---- that bytes tell words
@@ -80,6 +79,10 @@ pub data Compiles (m : Contents) (entry : Ref) (image home : List ℕ) : Answer 
 -- the words of a shader's image have 32 bits
 pub record HasNarrowWords (home : List ℕ) (shader : Shader) : Type 0 where
   pub narrow : All (λ w. w < 2 ^ 32) (image_words (image_of home shader))
+
+-- those of the shader that a file is
+abbrev pub HasNarrowForm : List ℕ → File → Type 0
+HasNarrowForm home file = (shader : Shader) × (form_of file ≡ Some shader) × HasNarrowWords home shader
 
 -- and are no more than an image may have
 pub record HasToldWords (home : List ℕ) (shader : Shader) : Type 0 where

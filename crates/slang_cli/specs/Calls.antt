@@ -1,5 +1,5 @@
 -- What a call of the program leaves.
-use Rattle.std.specs.Prelude.{◌≡◌, ◌⊎◌, ℕ, List, [], ◌++◌, Option, Some, None}
+use Rattle.std.specs.Prelude.{◌≡◌, ◌⊎◌, ℕ, List, [], Option, Some, None}
 use Rattle.behavior.specs.Meanings.{Agree}
 use Rattle.slang_tree.specs.declared.names.Ref.{Ref}
 use Rattle.slang_store.specs.Contents.{Contents, Partly}
@@ -8,13 +8,13 @@ use Rattle.spirv_words.specs.Bytes.{bytes_of_words}
 use Rattle.spirv_words.specs.Runs.{words}
 use Rattle.run_command.specs.Files.{HoldsImage}
 use Rattle.first_form.specs.declared.shader.Shader.{Shader}
-use Rattle.first_form.specs.Grammar.{FirstForm}
+use Rattle.slang_cli.specs.Texts.{FirstForm}
 use Rattle.first_image.specs.Source.{source}
 use Rattle.first_image.specs.Image.{image_of}
 use Rattle.spirv_words.specs.declared.images.Image.{Image}
 use Rattle.slang_outcomes.specs.declared.outcome.Outcome.{Outcome}
-use Rattle.slang_outcomes.specs.declared.outcome.Outcome.TheVariants.{Done, ModuleRefused, LinkRefused, Words, ReadFault, WriteFault, Memory, Undefined, Budget, Absent, FormRefused, ImageRefused, InputRefused}
-use Rattle.slang_cli.specs.Commands.{Request, Compile, text_name}
+use Rattle.slang_outcomes.specs.declared.outcome.Outcome.TheVariants.{Done, Words, ReadFault, WriteFault, Memory}
+use Rattle.slang_cli.specs.Commands.{Request, text_name}
 use Rattle.slang_outcomes.specs.Lines.{refusal_line}
 use Rattle.slang_cli.specs.Outside.{SinkNow, TookAll}
 use Rattle.slang_cli.specs.Answers.{Answer, Puts, IsAnswer, IsEntry, outcome_of, printed, contents_after}

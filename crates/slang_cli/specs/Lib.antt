@@ -1,4 +1,5 @@
 pub mod Commands
+pub mod Texts
 pub mod Answers
 pub mod Outside
 pub mod Views

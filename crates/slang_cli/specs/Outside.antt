@@ -1,12 +1,12 @@
 -- The outside before and after a call, and how a call goes.
-use Rattle.std.specs.Prelude.{◌≡◌, ◌⊎◌, ℕ, ◌≤◌, List, ◌++◌, Option, Some, None}
+use Rattle.std.specs.Prelude.{◌≡◌, ◌⊎◌, ℕ, List, ◌++◌, Option, Some, None}
 use Rattle.slang_store.specs.Contents.{Contents, Partly, IsPrefixOf}
 use Rattle.slang_store.specs.Counts.{Rose}
 use Rattle.slang_outcomes.specs.declared.outcome.Outcome.{Outcome}
-use Rattle.slang_outcomes.specs.declared.outcome.Outcome.TheVariants.{Done, ModuleRefused, LinkRefused, Words, ReadFault, WriteFault, Memory, Undefined, Budget, Absent, FormRefused, ImageRefused, InputRefused}
+use Rattle.slang_outcomes.specs.declared.outcome.Outcome.TheVariants.{Words, ReadFault, WriteFault, Memory}
 use Rattle.slang_cli.specs.Commands.{Request, asked_of}
 use Rattle.slang_outcomes.specs.Lines.{refusal_line}
-use Rattle.slang_cli.specs.Answers.{Answer, Refuses, Puts, IsAnswer, IsTold, IfPuts, outcome_of, printed, contents_after}
+use Rattle.slang_cli.specs.Answers.{Answer, Puts, IsAnswer, IsTold, IfPuts, outcome_of, printed, contents_after}
 
 -- the files: what they hold, where it is told, and how many reads and puts failed
 pub record FilesNow : Type 0 where

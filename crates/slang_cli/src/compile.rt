@@ -1,29 +1,36 @@
 // The command `compile`: from a module's text to the image of its entry.
 
-ghost use Rattle.std.specs.Prelude.{◌≡◌, ◌≤◌, ◌<◌, ◌^◌, ◌↔◌, ◌∷◌, [], All, Some, IfOk, OnOk, length, IsTrue};
+ghost use Rattle.std.specs.Prelude.{ℕ, List, ◌≡◌, ◌<◌, ◌^◌, ◌↔◌, ◌∷◌, [], All, Some, IfOk, OnOk, length, IsTrue};
 ghost use Rattle.std.specs.Fmt.{decimal};
 ghost use Rattle.slang_store.specs.Contents.{Contents};
 ghost use Rattle.spirv_words.specs.Words.{image_words};
 ghost use Rattle.spirv_words.specs.Bytes.{bytes_of_words};
 ghost use Rattle.first_form.specs.Shaders.{IsShader};
+ghost use Rattle.first_form.specs.declared.shader.Shader.{Shader};
+ghost use Rattle.tree_form.specs.Forms.{form_of};
+ghost use Rattle.slang_parse.specs.Parsing.{Spells};
 ghost use Rattle.first_image.specs.Image.{image_of};
 ghost use Rattle.command_words.specs.Words.{is_short_name};
 ghost use Rattle.slang_cli.specs.Commands.{text_name};
 ghost use Rattle.slang_outcomes.specs.Lines as lines;
-ghost use Rattle.slang_cli.specs.Answers.{Compiles, Refuses, Puts, printed_for, puts_image, text_limit, IsEntry, OfShader, HasNarrowWords, ImageIsTold, IfPuts};
+ghost use Rattle.slang_cli.specs.Answers.{Compiles, Refuses, Puts, printed_for, puts_image, IsEntry, OfShader, HasNarrowWords, HasNarrowForm, ImageIsTold, IfPuts};
+ghost use Rattle.slang_parse.specs.Parsing.{text_limit};
 ghost use Rattle.slang_outcomes.specs.declared.outcome.Outcome.TheVariants.{ModuleRefused, LinkRefused};
 ghost use Rattle.slang_tree.specs.declared.faults.LinkCause.TheVariants.{NoEntry};
-ghost use Rattle.slang_store.specs.Finds.{FoundWithin, IsFound};
+ghost use Rattle.slang_store.specs.Finds.{IsFound};
 ghost use Rattle.slang_cli.specs.Views as view;
 
 use crate::answer::Answer;
-use first_form::{Shader, one_shader, read_shader};
+use first_form::Shader;
 use first_image::{emit, image_is_short};
+use form_sizes::forms_are_short;
 use slang_outcomes::{Outcome, line, number, refusal_line};
+use slang_parse::{a_text_is_parsed_or_refused, parse};
 use slang_store::Found;
-use slang_tree::{LinkCause, ModuleCode, Name, Place, Ref, limits};
+use slang_tree::{LinkCause, ModuleCode, ModuleFault, Name, Place, Ref, Tree, limits};
 use spirv_words::{to_bytes, write};
 use std::alloc::{AllocError, Global};
+use tree_form::{forms_are_shaders, shader_of};
 
 /// The file of a module's text.
 pub fn text_file(alloc: Global, home: &[u8]) -> Result<Name, AllocError>
@@ -45,14 +52,13 @@ pub fn refuses(alloc: Global, entry: &[u8], status: Outcome) -> Result<Answer, A
 fn module_refused(
     alloc: Global,
     home: &[u8],
-    at: u32,
+    place: Place,
     code: ModuleCode,
 ) -> Result<Answer, AllocError>
-    ensures { IfOk result (λ a. (view.answer a ≡ Refuses (ModuleRefused home.now (record { start = at; end = at }) code))
+    ensures { IfOk result (λ a. (view.answer a ≡ Refuses (ModuleRefused home.now place code))
         × (view.line_of a ≡ printed_for [] (view.answer a))) }
 {
     let module = Name::from_slice(alloc, home)?;
-    let place = Place { start: at, end: at };
     refuses(
         alloc,
         b"",
@@ -160,7 +166,30 @@ fn compile_shader(
     }
 }
 
-/// What `compile` answers to a text of at most 1,048,576 bytes.
+/// What `compile` answers to the tree of a text.
+fn compile_tree(
+    alloc: Global,
+    module: &[u8],
+    entry: &[u8],
+    image: &[u8],
+    home: &[u8],
+    tree: &Tree,
+) -> Result<Answer, AllocError>
+    requires few { (shader : Shader) → form_of tree.now ≡ Some shader → length shader.statements < 2 ^ 20 }
+    requires home { IsTrue (is_short_name home.now) }
+    ensures answer { (m : Contents) (text : List ℕ) → m (text_name home.now) ≡ Some text → Spells text tree.now
+        → IfOk result (λ a. Compiles m (record { «module» = «module».now; path = entry.now }) image.now home.now (view.answer a)) }
+    ensures line { IfOk result (λ a. view.line_of a ≡ printed_for [] (view.answer a)) }
+    ensures narrow { IfOk result (λ a. IfPuts (view.answer a) (HasNarrowForm home.now tree.now)) }
+{
+    forms_are_shaders();
+    match shader_of(alloc, tree.file())? {
+        None => module_refused(alloc, home, Place { start: 0, end: 0 }, ModuleCode::NotYet),
+        Some(shader) => compile_shader(alloc, module, entry, image, home, &shader),
+    }
+}
+
+/// What `compile` answers to a text.
 fn compile_text(
     alloc: Global,
     module: &[u8],
@@ -169,7 +198,6 @@ fn compile_text(
     home: &[u8],
     text: &[u8],
 ) -> Result<Answer, AllocError>
-    requires short { length text.now ≤ text_limit }
     requires home { IsTrue (is_short_name home.now) }
     ensures answer { (m : Contents) → m (text_name home.now) ≡ Some text.now
         → IfOk result (λ a. Compiles m (record { «module» = «module».now; path = entry.now }) image.now home.now (view.answer a)) }
@@ -177,11 +205,14 @@ fn compile_text(
     ensures told { (m : Contents) → m (text_name home.now) ≡ Some text.now
         → IfOk result (λ a. IfPuts (view.answer a) (ImageIsTold m home.now)) }
 {
-    one_shader();
+    a_text_is_parsed_or_refused();
+    forms_are_shaders();
+    forms_are_short();
     image_is_short();
-    match read_shader(alloc, text)? {
-        None => module_refused(alloc, home, 0, ModuleCode::NotYet),
-        Some(shader) => compile_shader(alloc, module, entry, image, home, &shader),
+    match parse(alloc, text) {
+        Ok(tree) => compile_tree(alloc, module, entry, image, home, &tree),
+        Err(ModuleFault::Refused { place, code }) => module_refused(alloc, home, place, code),
+        Err(ModuleFault::Memory(error)) => Err(error),
     }
 }
 
@@ -194,7 +225,6 @@ pub fn compile_found(
     home: &[u8],
     found: Found,
 ) -> Result<Answer, AllocError>
-    requires short { FoundWithin text_limit found }
     requires home { IsTrue (is_short_name home.now) }
     ensures answer { (m : Contents) → IsFound text_limit (m (text_name home.now)) found
         → IfOk result (λ a. Compiles m (record { «module» = «module».now; path = entry.now }) image.now home.now (view.answer a)) }
@@ -208,11 +238,9 @@ pub fn compile_found(
             let name = text_file(alloc, home)?;
             refuses(alloc, b"", Outcome::Absent { name })
         }
-        Found::TooLong => module_refused(
-            alloc,
-            home,
-            limits::TEXT_BYTES as u32,
-            ModuleCode::TooLong,
-        ),
+        Found::TooLong => {
+            let end = limits::TEXT_BYTES as u32;
+            module_refused(alloc, home, Place { start: end, end }, ModuleCode::TooLong)
+        }
     }
 }

@@ -14,6 +14,7 @@ use first_image::{image_is_spelled, words_mean_source};
 use slang_outcomes::Outcome;
 use slang_store::{Files, Sink, an_entry_changes_one_name};
 use std::alloc::Global;
+use tree_form::forms_are_shaders;
 use valid_first_image::the_image_is_valid;
 
 /// Does what the words after the program's name ask for, over these files, and prints one line to `out`.
@@ -70,6 +71,7 @@ pub fn slangc<F: Files, S: Sink>(
     words_mean_source();
     image_is_spelled();
     the_image_is_valid();
+    forms_are_shaders();
     an_entry_changes_one_name();
     call(alloc, words, files, out)
 }

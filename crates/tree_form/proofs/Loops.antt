@@ -2,7 +2,7 @@
 use Rattle.std.proofs.Common.{◌≡◌, ℕ, zero, suc, ◌+◌, ◌<◌, ◌≤◌, List, [], ◌∷◌, ◌++◌, drop, length, get_or, Option, Some, None, sym, ◌∙◌, ap, refl, append_assoc, append-nil, arith}
 use Rattle.slang_tree.specs.declared.statements.StatTree.{StatTree}
 use Rattle.first_form.specs.declared.shader.Statement.{Statement}
-use Rattle.first_form.specs.Reading.{◌>>=◌}
+use Rattle.first_form.specs.Finding.{◌>>=◌}
 use Rattle.tree_form.specs.Forms.{statement_of, statements_of}
 
 -- what was made before, and what is still made

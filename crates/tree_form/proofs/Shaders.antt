@@ -18,7 +18,8 @@ use Rattle.first_form.specs.declared.shader.Statement.{Statement}
 use Rattle.first_form.specs.declared.shader.Sum.{Sum}
 use Rattle.first_form.specs.Words.{is_free_name}
 use Rattle.first_form.specs.Shaders.{IsGroup, IsStatement, IsShader}
-use Rattle.first_form.specs.Reading.{◌>>=◌, is_group}
+use Rattle.first_form.specs.Finding.{◌>>=◌}
+use Rattle.first_form.specs.Shaders.{is_group}
 use Rattle.tree_form.specs.Forms.{is_empty, plain_first, group_in, threads_of, behind_stage, only_threads, group_of, assigned, index_of, sum_of, statement_of, statements_of, parameter_of, function_of, Entry, entry_of, buffer_first, only_entry, are_names, head_in, is_alone, head_of, shader_by, form_of}
 use Rattle.tree_form.proofs.WithinSums.{some_is, bind_some, if_some, sum_is}
 

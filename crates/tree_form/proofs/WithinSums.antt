@@ -12,7 +12,7 @@ use Rattle.first_form.specs.declared.shader.Sum.{Sum}
 use Rattle.first_form.specs.declared.shader.Item.{Item}
 use Rattle.first_form.specs.declared.shader.Item.TheVariants.{Number as Written, X}
 use Rattle.first_form.specs.Shaders.{IsItem, IsSum}
-use Rattle.first_form.specs.Reading.{◌>>=◌, if_there}
+use Rattle.first_form.specs.Finding.{◌>>=◌, if_there}
 use Rattle.tree_form.specs.Forms.{literal_by, item_by, item_of, added, alone, and_last, sum_of}
 
 -- ---- what a step that found something found

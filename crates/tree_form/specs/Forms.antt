@@ -46,7 +46,8 @@ use Rattle.first_form.specs.declared.shader.Sum.{Sum}
 use Rattle.first_form.specs.declared.shader.Item.{Item}
 use Rattle.first_form.specs.declared.shader.Item.TheVariants.{Number as Written, X}
 use Rattle.first_form.specs.Words.{is_free_name}
-use Rattle.first_form.specs.Reading.{◌>>=◌, if_there, is_group}
+use Rattle.first_form.specs.Finding.{◌>>=◌, if_there}
+use Rattle.first_form.specs.Shaders.{is_group}
 
 abbrev pub is_empty : {A : Type 0} → List A → Bool
 is_empty xs = length xs == 0

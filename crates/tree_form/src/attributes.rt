@@ -1,8 +1,8 @@
 // The attributes of an entry.
 
 ghost use Rattle.std.specs.Prelude.{◌≡◌};
-ghost use Rattle.first_form.specs.Reading as read;
-ghost use Rattle.first_form.specs.Reading.{Finds};
+ghost use Rattle.first_form.specs.Shaders as shaders;
+ghost use Rattle.first_form.specs.Finding.{Finds};
 ghost use Rattle.tree_form.specs.Forms as form;
 
 use crate::words::is_word;
@@ -65,7 +65,7 @@ fn plain_first(literals: &[Literal]) -> Option<(u32, &[Literal])>
 }
 
 fn is_group(group: GroupSize) -> bool
-    ensures { result ≡ read.is_group group }
+    ensures { result ≡ shaders.is_group group }
 {
     let GroupSize { x, y, z } = group;
     let along_each = 1 <= x

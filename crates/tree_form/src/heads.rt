@@ -1,7 +1,7 @@
 // What stands before the statements.
 
 ghost use Rattle.std.specs.Prelude.{◌≡◌};
-ghost use Rattle.first_form.specs.Reading.{Finds};
+ghost use Rattle.first_form.specs.Finding.{Finds};
 ghost use Rattle.tree_form.specs.Forms as form;
 ghost use Rattle.tree_form.specs.Views.{seen};
 

@@ -1,7 +1,7 @@
 // The statements of an entry.
 
 ghost use Rattle.std.specs.Prelude.{◌≡◌, IfOk};
-ghost use Rattle.first_form.specs.Reading.{Finds};
+ghost use Rattle.first_form.specs.Finding.{Finds};
 ghost use Rattle.tree_form.specs.Forms as form;
 
 use crate::sums::sum_of;

@@ -1,7 +1,7 @@
 // Sums of numbers and of the parameter's first component.
 
 ghost use Rattle.std.specs.Prelude.{◌≡◌, IfOk};
-ghost use Rattle.first_form.specs.Reading.{Finds};
+ghost use Rattle.first_form.specs.Finding.{Finds};
 ghost use Rattle.tree_form.specs.Forms as form;
 
 use crate::words::{is_named, is_word};

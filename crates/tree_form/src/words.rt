@@ -2,12 +2,10 @@
 
 ghost use Rattle.std.specs.Prelude.{◌≡◌};
 ghost use Rattle.std.specs.Str.{bytes_eq};
-ghost use Rattle.first_form.specs.Words as words;
 ghost use Rattle.tree_form.specs.Forms as form;
 
-use first_form::is_reserved;
-use slang_tree::limits::NAME_BYTES;
-use slang_tree::{ExprNode, ExprTree, Identifier, is_name};
+use first_form::is_free_name;
+use slang_tree::{ExprNode, ExprTree, Identifier};
 
 /// Whether the identifier is this word.
 pub fn is_word(identifier: &Identifier, word: &[u8]) -> bool
@@ -26,12 +24,6 @@ pub fn is_named(word: &[u8], tree: &ExprTree) -> bool
         }
         _ => false,
     }
-}
-
-fn is_free_name(word: &[u8]) -> bool
-    ensures { result ≡ words.is_free_name word.now }
-{
-    is_name(word) && word.len() <= NAME_BYTES && !is_reserved(word)
 }
 
 /// Whether these are three different names that are no words of the language.

@@ -83,88 +83,200 @@ fn shaders_have_the_words_made_apart(rt: HostRuntime) -> Result<(), Fail> {
     )
 }
 
-/// Texts that miss the form by one thing each.
-const OTHERS: [&str; 40] = [
+/// Texts that are not compiled, with what their refusal says.
+const OTHERS: [(&str, &str); 36] = [
+    // a leading 0
+    (
+        "RWStructuredBuffer<uint> o; [shader(\"compute\")] [numthreads(2,1,1)] void main(uint3 t : SV_DispatchThreadID) { o[t.x] = t.x + 01u; }",
+        "103 BadToken 126 128",
+    ),
+    // two zeros
+    (
+        "RWStructuredBuffer<uint> o; [shader(\"compute\")] [numthreads(2,1,1)] void main(uint3 t : SV_DispatchThreadID) { o[t.x] = t.x + 00u; }",
+        "103 BadToken 126 128",
+    ),
+    // 33 items
+    (
+        "RWStructuredBuffer<uint> o; [shader(\"compute\")] [numthreads(2,1,1)] void main(uint3 t : SV_DispatchThreadID) { o[t.x] = 1u + 1u + 1u + 1u + 1u + 1u + 1u + 1u + 1u + 1u + 1u + 1u + 1u + 1u + 1u + 1u + 1u + 1u + 1u + 1u + 1u + 1u + 1u + 1u + 1u + 1u + 1u + 1u + 1u + 1u + 1u + 1u + 1u; }",
+        "199 NotYet 0 0",
+    ),
+    // a number past 32 bits
+    (
+        "RWStructuredBuffer<uint> o; [shader(\"compute\")] [numthreads(2,1,1)] void main(uint3 t : SV_DispatchThreadID) { o[t.x] = t.x + 4294967296u; }",
+        "104 NumberRange 126 137",
+    ),
+    // a name of 65 bytes
+    (
+        "RWStructuredBuffer<uint> ooooooooooooooooooooooooooooooooooooooooooooooooooooooooooooooooo; [shader(\"compute\")] [numthreads(2,1,1)] void main(uint3 t : SV_DispatchThreadID) { ooooooooooooooooooooooooooooooooooooooooooooooooooooooooooooooooo[t.x] = t.x + 1u; }",
+        "112 TooLong 25 90",
+    ),
+    // a word of the language as a name
+    (
+        "RWStructuredBuffer<uint> int; [shader(\"compute\")] [numthreads(2,1,1)] void main(uint3 t : SV_DispatchThreadID) { int[t.x] = t.x + 1u; }",
+        "110 Syntax 25 28",
+    ),
+    // a refused word as a name
+    (
+        "RWStructuredBuffer<uint> o; [shader(\"compute\")] [numthreads(2,1,1)] void main(uint3 half : SV_DispatchThreadID) { o[half.x] = half.x + 1u; }",
+        "120 Float 84 88",
+    ),
+    // the buffer and the entry of one name
+    (
+        "RWStructuredBuffer<uint> main; [shader(\"compute\")] [numthreads(2,1,1)] void main(uint3 t : SV_DispatchThreadID) { main[t.x] = t.x + 1u; }",
+        "199 NotYet 0 0",
+    ),
+    // the buffer and the parameter of one name
+    (
+        "RWStructuredBuffer<uint> o; [shader(\"compute\")] [numthreads(2,1,1)] void main(uint3 o : SV_DispatchThreadID) { o[o.x] = o.x + 1u; }",
+        "199 NotYet 0 0",
+    ),
+    // a group of 0
+    (
+        "RWStructuredBuffer<uint> o; [shader(\"compute\")] [numthreads(0,1,1)] void main(uint3 t : SV_DispatchThreadID) { o[t.x] = t.x + 1u; }",
+        "199 NotYet 0 0",
+    ),
+    // a group of 1025
+    (
+        "RWStructuredBuffer<uint> o; [shader(\"compute\")] [numthreads(1025,1,1)] void main(uint3 t : SV_DispatchThreadID) { o[t.x] = t.x + 1u; }",
+        "199 NotYet 0 0",
+    ),
+    // a group 65 deep
+    (
+        "RWStructuredBuffer<uint> o; [shader(\"compute\")] [numthreads(1,1,65)] void main(uint3 t : SV_DispatchThreadID) { o[t.x] = t.x + 1u; }",
+        "199 NotYet 0 0",
+    ),
+    // a group of 2048
+    (
+        "RWStructuredBuffer<uint> o; [shader(\"compute\")] [numthreads(32,32,2)] void main(uint3 t : SV_DispatchThreadID) { o[t.x] = t.x + 1u; }",
+        "199 NotYet 0 0",
+    ),
+    // a size with a leading 0
+    (
+        "RWStructuredBuffer<uint> o; [shader(\"compute\")] [numthreads(02,1,1)] void main(uint3 t : SV_DispatchThreadID) { o[t.x] = t.x + 1u; }",
+        "103 BadToken 60 62",
+    ),
+    // a size with a suffix
+    (
+        "RWStructuredBuffer<uint> o; [shader(\"compute\")] [numthreads(2u,1,1)] void main(uint3 t : SV_DispatchThreadID) { o[t.x] = t.x + 1u; }",
+        "199 NotYet 0 0",
+    ),
+    // no suffix
+    (
+        "RWStructuredBuffer<uint> o; [shader(\"compute\")] [numthreads(2,1,1)] void main(uint3 t : SV_DispatchThreadID) { o[t.x] = t.x + 1; }",
+        "199 NotYet 0 0",
+    ),
+    // a vertical tab
+    (
+        "\x0bRWStructuredBuffer<uint> o; [shader(\"compute\")] [numthreads(2,1,1)] void main(uint3 t : SV_DispatchThreadID) { o[t.x] = t.x + 1u; }",
+        "101 BadByte 0 1",
+    ),
+    // a mark of two bytes
+    (
+        "RWStructuredBuffer<uint> o; [shader(\"compute\")] [numthreads(2,1,1)] void main(uint3 t : SV_DispatchThreadID) { o[t.x] = 1u++t.x; }",
+        "110 Syntax 122 124",
+    ),
+    // the y component
+    (
+        "RWStructuredBuffer<uint> o; [shader(\"compute\")] [numthreads(2,1,1)] void main(uint3 t : SV_DispatchThreadID) { o[t.x] = t.y + 1u; }",
+        "199 NotYet 0 0",
+    ),
+    // no semicolon
+    (
+        "RWStructuredBuffer<uint> o; [shader(\"compute\")] [numthreads(2,1,1)] void main(uint3 t : SV_DispatchThreadID) { o[t.x] = t.x + 1u }",
+        "110 Syntax 129 130",
+    ),
+    // two buffers
+    (
+        "RWStructuredBuffer<uint> p; RWStructuredBuffer<uint> o; [shader(\"compute\")] [numthreads(2,1,1)] void main(uint3 t : SV_DispatchThreadID) { o[t.x] = t.x + 1u; }",
+        "199 NotYet 0 0",
+    ),
+    // a buffer that is only read
+    (
+        "StructuredBuffer<uint> o; [shader(\"compute\")] [numthreads(2,1,1)] void main(uint3 t : SV_DispatchThreadID) { o[t.x] = t.x + 1u; }",
+        "199 NotYet 0 0",
+    ),
+    // a buffer of ints
+    (
+        "RWStructuredBuffer<int> o; [shader(\"compute\")] [numthreads(2,1,1)] void main(uint3 t : SV_DispatchThreadID) { o[t.x] = t.x + 1u; }",
+        "199 NotYet 0 0",
+    ),
+    // two components
+    (
+        "RWStructuredBuffer<uint> o; [shader(\"compute\")] [numthreads(2,1,1)] void main(uint2 t : SV_DispatchThreadID) { o[t.x] = t.x + 1u; }",
+        "199 NotYet 0 0",
+    ),
+    // another built-in value
+    (
+        "RWStructuredBuffer<uint> o; [shader(\"compute\")] [numthreads(2,1,1)] void main(uint3 t : SV_GroupID) { o[t.x] = t.x + 1u; }",
+        "199 NotYet 0 0",
+    ),
+    // another stage
+    (
+        "RWStructuredBuffer<uint> o; [shader(\"vertex\")] [numthreads(2,1,1)] void main(uint3 t : SV_DispatchThreadID) { o[t.x] = t.x + 1u; }",
+        "123 Unsupported 29 35",
+    ),
+    // no size
+    (
+        "RWStructuredBuffer<uint> o; [shader(\"compute\")] void main(uint3 t : SV_DispatchThreadID) { o[t.x] = t.x + 1u; }",
+        "199 NotYet 0 0",
+    ),
+    // a token behind the end
+    (
+        "RWStructuredBuffer<uint> o; [shader(\"compute\")] [numthreads(2,1,1)] void main(uint3 t : SV_DispatchThreadID) { o[t.x] = t.x + 1u; } x",
+        "110 Syntax 133 133",
+    ),
+    // an empty text
+    ("", "199 NotYet 0 0"),
+    // a split word
+    (
+        "RWStructuredBuffer<uint> o; [shader(\"compute\")] [numthreads(2,1,1)] void main(uint 3 t : SV_DispatchThreadID) { o[t.x] = t.x + 1u; }",
+        "110 Syntax 83 84",
+    ),
+    // a difference
+    (
+        "RWStructuredBuffer<uint> o; [shader(\"compute\")] [numthreads(2,1,1)] void main(uint3 t : SV_DispatchThreadID) { o[t.x] = t.x - 1u; }",
+        "199 NotYet 0 0",
+    ),
+    // parentheses
+    (
+        "RWStructuredBuffer<uint> o; [shader(\"compute\")] [numthreads(2,1,1)] void main(uint3 t : SV_DispatchThreadID) { o[t.x] = (t.x) + 1u; }",
+        "199 NotYet 0 0",
+    ),
+    // a return
+    (
+        "RWStructuredBuffer<uint> o; [shader(\"compute\")] [numthreads(2,1,1)] void main(uint3 t : SV_DispatchThreadID) { o[t.x] = t.x + 1u; return; }",
+        "199 NotYet 0 0",
+    ),
+    // a number with a point
+    (
+        "RWStructuredBuffer<uint> o; [shader(\"compute\")] [numthreads(2,1,1)] void main(uint3 t : SV_DispatchThreadID) { o[t.x] = t.x + 1.0; }",
+        "120 Float 126 128",
+    ),
+    // no closing brace
+    (
+        "RWStructuredBuffer<uint> o; [shader(\"compute\")] [numthreads(2,1,1)] void main(uint3 t : SV_DispatchThreadID) { o[t.x] = t.x + 1u;",
+        "110 Syntax 129 129",
+    ),
+    // a module declaration
+    (
+        "module a; RWStructuredBuffer<uint> o; [shader(\"compute\")] [numthreads(2,1,1)] void main(uint3 t : SV_DispatchThreadID) { o[t.x] = t.x + 1u; }",
+        "199 NotYet 0 0",
+    ),
+];
+
+/// One shader, and texts that say it in other ways.
+const PLAIN: &str =
+    "RWStructuredBuffer<uint> o; [shader(\"compute\")] [numthreads(2,1,1)] void main(uint3 t : SV_DispatchThreadID) { o[t.x] = t.x + 1u; }";
+
+const SAME: [&str; 4] = [
     // a comment
     "// c\nRWStructuredBuffer<uint> o; [shader(\"compute\")] [numthreads(2,1,1)] void main(uint3 t : SV_DispatchThreadID) { o[t.x] = t.x + 1u; }",
     // a comment between tokens
     "RWStructuredBuffer<uint> o; [shader(\"compute\")] [numthreads(2,1,1)] void /* m */ main(uint3 t : SV_DispatchThreadID) { o[t.x] = t.x + 1u; }",
-    // a leading 0
-    "RWStructuredBuffer<uint> o; [shader(\"compute\")] [numthreads(2,1,1)] void main(uint3 t : SV_DispatchThreadID) { o[t.x] = t.x + 01u; }",
-    // two zeros
-    "RWStructuredBuffer<uint> o; [shader(\"compute\")] [numthreads(2,1,1)] void main(uint3 t : SV_DispatchThreadID) { o[t.x] = t.x + 00u; }",
-    // 33 items
-    "RWStructuredBuffer<uint> o; [shader(\"compute\")] [numthreads(2,1,1)] void main(uint3 t : SV_DispatchThreadID) { o[t.x] = 1u + 1u + 1u + 1u + 1u + 1u + 1u + 1u + 1u + 1u + 1u + 1u + 1u + 1u + 1u + 1u + 1u + 1u + 1u + 1u + 1u + 1u + 1u + 1u + 1u + 1u + 1u + 1u + 1u + 1u + 1u + 1u + 1u; }",
-    // a number past 32 bits
-    "RWStructuredBuffer<uint> o; [shader(\"compute\")] [numthreads(2,1,1)] void main(uint3 t : SV_DispatchThreadID) { o[t.x] = t.x + 4294967296u; }",
-    // a name of 65 bytes
-    "RWStructuredBuffer<uint> ooooooooooooooooooooooooooooooooooooooooooooooooooooooooooooooooo; [shader(\"compute\")] [numthreads(2,1,1)] void main(uint3 t : SV_DispatchThreadID) { ooooooooooooooooooooooooooooooooooooooooooooooooooooooooooooooooo[t.x] = t.x + 1u; }",
-    // a word of the language as a name
-    "RWStructuredBuffer<uint> int; [shader(\"compute\")] [numthreads(2,1,1)] void main(uint3 t : SV_DispatchThreadID) { int[t.x] = t.x + 1u; }",
-    // a refused word as a name
-    "RWStructuredBuffer<uint> o; [shader(\"compute\")] [numthreads(2,1,1)] void main(uint3 half : SV_DispatchThreadID) { o[half.x] = half.x + 1u; }",
-    // the buffer and the entry of one name
-    "RWStructuredBuffer<uint> main; [shader(\"compute\")] [numthreads(2,1,1)] void main(uint3 t : SV_DispatchThreadID) { main[t.x] = t.x + 1u; }",
-    // the buffer and the parameter of one name
-    "RWStructuredBuffer<uint> o; [shader(\"compute\")] [numthreads(2,1,1)] void main(uint3 o : SV_DispatchThreadID) { o[o.x] = o.x + 1u; }",
-    // a group of 0
-    "RWStructuredBuffer<uint> o; [shader(\"compute\")] [numthreads(0,1,1)] void main(uint3 t : SV_DispatchThreadID) { o[t.x] = t.x + 1u; }",
-    // a group of 1025
-    "RWStructuredBuffer<uint> o; [shader(\"compute\")] [numthreads(1025,1,1)] void main(uint3 t : SV_DispatchThreadID) { o[t.x] = t.x + 1u; }",
-    // a group 65 deep
-    "RWStructuredBuffer<uint> o; [shader(\"compute\")] [numthreads(1,1,65)] void main(uint3 t : SV_DispatchThreadID) { o[t.x] = t.x + 1u; }",
-    // a group of 2048
-    "RWStructuredBuffer<uint> o; [shader(\"compute\")] [numthreads(32,32,2)] void main(uint3 t : SV_DispatchThreadID) { o[t.x] = t.x + 1u; }",
-    // a size with a leading 0
-    "RWStructuredBuffer<uint> o; [shader(\"compute\")] [numthreads(02,1,1)] void main(uint3 t : SV_DispatchThreadID) { o[t.x] = t.x + 1u; }",
-    // a size with a suffix
-    "RWStructuredBuffer<uint> o; [shader(\"compute\")] [numthreads(2u,1,1)] void main(uint3 t : SV_DispatchThreadID) { o[t.x] = t.x + 1u; }",
-    // no suffix
-    "RWStructuredBuffer<uint> o; [shader(\"compute\")] [numthreads(2,1,1)] void main(uint3 t : SV_DispatchThreadID) { o[t.x] = t.x + 1; }",
     // a capital suffix
     "RWStructuredBuffer<uint> o; [shader(\"compute\")] [numthreads(2,1,1)] void main(uint3 t : SV_DispatchThreadID) { o[t.x] = t.x + 1U; }",
-    // a vertical tab
-    "\x0bRWStructuredBuffer<uint> o; [shader(\"compute\")] [numthreads(2,1,1)] void main(uint3 t : SV_DispatchThreadID) { o[t.x] = t.x + 1u; }",
-    // a mark of two bytes
-    "RWStructuredBuffer<uint> o; [shader(\"compute\")] [numthreads(2,1,1)] void main(uint3 t : SV_DispatchThreadID) { o[t.x] = 1u++t.x; }",
-    // the y component
-    "RWStructuredBuffer<uint> o; [shader(\"compute\")] [numthreads(2,1,1)] void main(uint3 t : SV_DispatchThreadID) { o[t.x] = t.y + 1u; }",
-    // no semicolon
-    "RWStructuredBuffer<uint> o; [shader(\"compute\")] [numthreads(2,1,1)] void main(uint3 t : SV_DispatchThreadID) { o[t.x] = t.x + 1u }",
-    // two buffers
-    "RWStructuredBuffer<uint> p; RWStructuredBuffer<uint> o; [shader(\"compute\")] [numthreads(2,1,1)] void main(uint3 t : SV_DispatchThreadID) { o[t.x] = t.x + 1u; }",
-    // a buffer that is only read
-    "StructuredBuffer<uint> o; [shader(\"compute\")] [numthreads(2,1,1)] void main(uint3 t : SV_DispatchThreadID) { o[t.x] = t.x + 1u; }",
-    // a buffer of ints
-    "RWStructuredBuffer<int> o; [shader(\"compute\")] [numthreads(2,1,1)] void main(uint3 t : SV_DispatchThreadID) { o[t.x] = t.x + 1u; }",
-    // two components
-    "RWStructuredBuffer<uint> o; [shader(\"compute\")] [numthreads(2,1,1)] void main(uint2 t : SV_DispatchThreadID) { o[t.x] = t.x + 1u; }",
-    // another built-in value
-    "RWStructuredBuffer<uint> o; [shader(\"compute\")] [numthreads(2,1,1)] void main(uint3 t : SV_GroupID) { o[t.x] = t.x + 1u; }",
-    // another stage
-    "RWStructuredBuffer<uint> o; [shader(\"vertex\")] [numthreads(2,1,1)] void main(uint3 t : SV_DispatchThreadID) { o[t.x] = t.x + 1u; }",
-    // no size
-    "RWStructuredBuffer<uint> o; [shader(\"compute\")] void main(uint3 t : SV_DispatchThreadID) { o[t.x] = t.x + 1u; }",
-    // a token behind the end
-    "RWStructuredBuffer<uint> o; [shader(\"compute\")] [numthreads(2,1,1)] void main(uint3 t : SV_DispatchThreadID) { o[t.x] = t.x + 1u; } x",
-    // an empty text
-    "",
     // a hexadecimal number
     "RWStructuredBuffer<uint> o; [shader(\"compute\")] [numthreads(2,1,1)] void main(uint3 t : SV_DispatchThreadID) { o[t.x] = t.x + 0x1u; }",
-    // a split word
-    "RWStructuredBuffer<uint> o; [shader(\"compute\")] [numthreads(2,1,1)] void main(uint 3 t : SV_DispatchThreadID) { o[t.x] = t.x + 1u; }",
-    // a difference
-    "RWStructuredBuffer<uint> o; [shader(\"compute\")] [numthreads(2,1,1)] void main(uint3 t : SV_DispatchThreadID) { o[t.x] = t.x - 1u; }",
-    // parentheses
-    "RWStructuredBuffer<uint> o; [shader(\"compute\")] [numthreads(2,1,1)] void main(uint3 t : SV_DispatchThreadID) { o[t.x] = (t.x) + 1u; }",
-    // a return
-    "RWStructuredBuffer<uint> o; [shader(\"compute\")] [numthreads(2,1,1)] void main(uint3 t : SV_DispatchThreadID) { o[t.x] = t.x + 1u; return; }",
-    // a number with a point
-    "RWStructuredBuffer<uint> o; [shader(\"compute\")] [numthreads(2,1,1)] void main(uint3 t : SV_DispatchThreadID) { o[t.x] = t.x + 1.0; }",
-    // no closing brace
-    "RWStructuredBuffer<uint> o; [shader(\"compute\")] [numthreads(2,1,1)] void main(uint3 t : SV_DispatchThreadID) { o[t.x] = t.x + 1u;",
-    // a module declaration
-    "module a; RWStructuredBuffer<uint> o; [shader(\"compute\")] [numthreads(2,1,1)] void main(uint3 t : SV_DispatchThreadID) { o[t.x] = t.x + 1u; }",
 ];
 
 /// Words that are no command.
@@ -208,17 +320,38 @@ fn check_refused(
 }
 
 #[test]
-fn other_texts_are_not_compiled_yet(rt: HostRuntime) -> Result<(), Fail> {
-    for text in OTHERS {
+fn other_texts_are_refused(rt: HostRuntime) -> Result<(), Fail> {
+    let alloc = rt.alloc();
+    for (text, refusal) in OTHERS {
+        let printed = format!(in alloc; "refused a {refusal}\n")?;
         let text = Some(text.as_bytes());
         check_refused(
             &rt,
-            rt.alloc(),
+            alloc,
             text,
             "compile a.main a.spv a",
             1,
-            "refused a 199 NotYet 0 0\n",
+            printed.as_str(),
         )?;
+    }
+    Ok(())
+}
+
+/// The image of a text.
+fn image_of(alloc: Global, text: &str) -> Result<Vec<u8>, Fail> {
+    let mut files = MemoryFiles::new(alloc);
+    put(alloc, &mut files, "a.slang", text.as_bytes())?;
+    let (_, _) = call(alloc, &mut files, "compile a.main a.spv a", 100)?;
+    let image = files.get(b"a.spv").ok_or("no image")?;
+    Ok(Vec::from_slice(alloc, image)?)
+}
+
+#[test]
+fn one_shader_has_one_image(rt: HostRuntime) -> Result<(), Fail> {
+    let plain = image_of(rt.alloc(), PLAIN)?;
+    for text in SAME {
+        let image = image_of(rt.alloc(), text)?;
+        assert_eq!(rt; image.as_slice(), plain.as_slice());
     }
     Ok(())
 }

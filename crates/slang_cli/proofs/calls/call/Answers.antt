@@ -1,8 +1,5 @@
-use Rattle.std.proofs.Common.{◌≡◌, Option, Some, None, Err, ap, sym, ◌∙◌, subst, refl}
-use Rattle.slang_store.specs.Counts.{Rose}
-use Rattle.slang_outcomes.specs.declared.outcome.Outcome.TheVariants.{Words, ReadFault, Memory}
-use Rattle.slang_cli.specs.Commands.{Request}
-use Rattle.slang_cli.specs.Outside.{FilesNow, SinkNow, Runs, halted}
+use Rattle.std.proofs.Common.{Err, ap, sym, ◌∙◌, refl}
+use Rattle.slang_cli.specs.Outside.{FilesNow}
 use Rattle.slang_cli.specs.Views as view
 use Rattle.slang_cli.proofs.Called.{words_run, read_runs, memory_runs, runs_as, answer_still}
 use Rattle.slang_cli.proofs.Clauses.{runs_before}

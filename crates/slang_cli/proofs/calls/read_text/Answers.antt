@@ -1,5 +1,5 @@
 use Rattle.std.proofs.Common.{ℕ, List, subst}
-use Rattle.slang_cli.specs.Answers.{text_limit}
+use Rattle.slang_parse.specs.Parsing.{text_limit}
 use Rattle.slang_store.specs.Finds.{IsFound}
 use Rattle.slang_store.proofs.FoundUnder.{found_by}
 use Rattle.slang_cli.proofs.calls.read_text.Goals as goal

@@ -1,6 +1,7 @@
 use Rattle.std.proofs.Common.{ℕ, List, Some, ap, sym, ◌∙◌}
 use Rattle.slang_outcomes.specs.declared.outcome.Outcome.TheVariants.{Absent}
-use Rattle.slang_cli.specs.Answers.{Refuses, absent, too_long}
+use Rattle.slang_cli.specs.Answers.{Refuses, absent, not_parsed}
+use Rattle.slang_parse.specs.Parsing.{too_long}
 use Rattle.slang_cli.specs.Views as view
 use Rattle.slang_cli.proofs.Results.{if_ok_to}
 use Rattle.slang_cli.proofs.Compiled.{answered}
@@ -16,7 +17,7 @@ pub returns-in-TooLong-clause-answer : goal.returns-in-TooLong-clause-answer
 returns-in-TooLong-clause-answer c =
     λ m held. let longer = rw c.in-TooLong.is at held in
     if_ok_to _ _ c.module_refused.result c.module_refused.ensures (λ a e.
-    answered m _ _ _ (view.answer a) _ e.0 (too_long {text = longer.0} longer.1 longer.2))
+    answered m _ _ _ (view.answer a) _ e.0 (not_parsed {text = longer.0} longer.1 (too_long longer.2)))
 
 pub returns-in-Bytes-clause-told : goal.returns-in-Bytes-clause-told
 returns-in-Bytes-clause-told c = λ m held.

@@ -1,9 +1,8 @@
-use Rattle.std.proofs.Common.{◌≡◌, ℕ, List, [], ◌∷◌, length, ap, ◌∙◌}
+use Rattle.std.proofs.Common.{ℕ, List, [], ◌∷◌, length, ap, ◌∙◌}
 use Rattle.std.specs.Fmt.{decimal}
 use Rattle.spirv_words.specs.Bytes.{bytes_of_words}
 use Rattle.slang_outcomes.specs.Lines.{line}
 use Rattle.slang_cli.specs.Answers.{Puts, puts_image}
-use Rattle.slang_cli.specs.Views as view
 use Rattle.slang_cli.proofs.Results.{if_ok_to}
 use Rattle.slang_cli.proofs.Told.{on_ok_of, narrow_of}
 use Rattle.slang_cli.proofs.compile.image_put.Goals as goal

@@ -16,7 +16,7 @@ returns-clause-answer g c = λ m told command is. answer _ _ _ _ _ m command c.c
 pub returns-clause-means : goal.returns-clause-means
 returns-clause-means g c = λ m told entry image home is done.
     let name = short_name home (command_home (map string_bytes c.args.words.now) entry image home is) in
-    meant (record { agree = c.words_mean_source.ensures; spelled = c.image_is_spelled.ensures; valid = c.the_image_is_valid.ensures.valid; here = c.an_entry_changes_one_name.ensures.here })
+    meant (record { agree = c.words_mean_source.ensures; spelled = c.image_is_spelled.ensures; valid = c.the_image_is_valid.ensures.valid; shader = c.forms_are_shaders.ensures.is_shader; here = c.an_entry_changes_one_name.ensures.here })
     m entry image home name.0 name.1 _ _ _ _ _ c.call.ensures.runs told is done
 
 pub returns-clause-read_fault : goal.returns-clause-read_fault
