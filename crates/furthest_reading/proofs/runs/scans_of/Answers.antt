@@ -1,0 +1,4 @@
+use Rattle.furthest_reading.proofs.runs.scans_of.Goals as goal
+
+pub returns : goal.returns
+returns c = c.new.ensures.knows c.args.text.now

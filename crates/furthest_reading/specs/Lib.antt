@@ -1,0 +1,5 @@
+pub mod Fronts
+pub mod Lists
+pub mod Misfits
+pub mod Runs
+pub mod Verdicts
