@@ -341,6 +341,81 @@ static LIMITS: [Many; 68] = [
     ("#$ $$$", 1048576, (112, 1048576, 1048576)),
 ];
 
+// Where generic arguments come further than an operator, or equally far; and attributes that do not fit, with a limit behind
+// them.
+static FURTHEST: [Many; 54] = [
+    ("void f() { x = a < b, $n$; }$$", 64, (110, 86, 87)),
+    ("void f() { x = a < b, $n$; }$$", 65, (112, 22, 87)),
+    ("void f() { x = a < b < c, $n$; }$$", 65, (112, 26, 91)),
+    ("void f() { x = a < b, c < d, $n$; }$$", 65, (112, 29, 94)),
+    ("void f() { x = a < b, c[$n$; }$$", 65, (112, 24, 89)),
+    ("void f() { x = a < b.$n$, c ; }$$", 65, (112, 21, 86)),
+    (
+        "void f() { x = a < StructuredBuffer<$n$; }$$",
+        65,
+        (112, 36, 101),
+    ),
+    ("void f() { x = a < b, $n$", 65, (112, 22, 87)),
+    ("void f() { x = a < b, c d, $n$; }$$", 65, (110, 24, 25)),
+    ("void f() { g(a < b, $n$; }$$", 65, (112, 20, 85)),
+    ("void f() { x = a.b < c, $n$; }$$", 65, (112, 24, 89)),
+    ("void f() { a<$n$> = 3; }$$", 64, (110, 79, 80)),
+    ("void f() { a<$n$> = 3; }$$", 65, (112, 13, 78)),
+    ("void f() { a.b<$n$> = 3; }$$", 65, (112, 15, 80)),
+    ("void f() { a<$n$>[3] = 3; }$$", 65, (112, 13, 78)),
+    ("void f() { int[$n$] 5; }$$", 65, (112, 15, 80)),
+    ("void f() { x = a<1$, 1$, b c; }$$", 254, (110, 784, 785)),
+    ("void f() { x = a<1$, 1$, b c; }$$", 255, (112, 785, 786)),
+    // Brackets of types and of generic parameters have one reading.
+    ("A<$n$ b;$$", 65, (112, 2, 67)),
+    ("typedef A<$n$ b;$$", 65, (112, 10, 75)),
+    ("struct S<$n$$$", 65, (112, 9, 74)),
+    ("extension S<$n$ b> { }$$", 65, (112, 12, 77)),
+    ("void f(A<$n$, b c) { }$$", 65, (112, 9, 74)),
+    ("struct S { int a; A<$n$; }$$", 65, (112, 20, 85)),
+    ("void f() { const A<$n$, b c; }$$", 65, (112, 19, 84)),
+    ("void f() { for (const a<$n$ b;;) ; }$$", 65, (112, 24, 89)),
+    (
+        "void f() { StructuredBuffer<A<$n$ b; }$$",
+        65,
+        (112, 30, 95),
+    ),
+    ("void f() { const a<$1, $1 b; }$$", 256, (112, 787, 788)),
+    ("typedef $A<$int b;$$", 64, (111, 136, 139)),
+    // The node of the operator is one too many, and then that of the argument.
+    ("void f() { x = $($a<int> c; }$$", 60, (110, 82, 83)),
+    ("void f() { x = $($a<int> c; }$$", 61, (111, 78, 81)),
+    ("void f() { x = $($a<b; }$$", 61, (111, 77, 78)),
+    ("void f() { x = $($a<b, c; }$$", 60, (110, 81, 82)),
+    ("void f() { x = a<$a<$a, b c; }$$", 59, (110, 140, 141)),
+    ("void f() { x = a<$a<$a, b c; }$$", 100, (111, 138, 139)),
+    ("void f() { x = a<$a<$a; }$$", 100, (111, 138, 139)),
+    ("void f() { g(a<$a<$a, b c); }$$", 100, (111, 134, 135)),
+    ("void f() { g(a<$a<$a, b); }$$", 100, (111, 134, 135)),
+    // Arguments that are settled, in one another.
+    ("void f() { x = a < $b<$int$>$(1); }", 1000, (111, 141, 142)),
+    // Attributes.
+    ("[shader(\"compute\")] int $n$;$$", 64, (123, 1, 7)),
+    ("[shader(\"compute\")] int $n$;$$", 65, (123, 1, 7)),
+    ("[shader(\"compute\")] int $n$ 5$$", 65, (112, 24, 89)),
+    ("[shader(\"compute\")] int $n$() { }$$", 65, (112, 24, 89)),
+    ("[shader(\"compute\")] $n$, a x;$$", 65, (112, 20, 85)),
+    ("[shader(\"compute\")] $A<$int$>$ x;", 70, (123, 1, 7)),
+    ("[shader(\"compute\")] a$.b$ x;$$", 70, (123, 1, 7)),
+    ("[shader(\"compute\")] a$.b$ x, y;$$", 70, (111, 147, 148)),
+    ("struct S { [mutating] a$.b$ x, y; }$$", 70, (123, 12, 20)),
+    ("struct S { [mutating] int $n$; }$$", 65, (123, 12, 20)),
+    ("[shader(\"compute\")] A<$n$ b;$$", 65, (112, 22, 87)),
+    ("[[vk::binding(0, 1)]] A<$n$ b() { }$$", 65, (112, 24, 89)),
+    ("struct S { [mutating] a[$n$ b; }$$", 65, (112, 24, 89)),
+    ("struct S { [mutating] A<$n$, b c; }$$", 65, (112, 24, 89)),
+    (
+        "interface I { [mutating] static $n$ a(); }$$",
+        65,
+        (123, 15, 23),
+    ),
+];
+
 /// The part of that number, behind what the text has.
 fn add(text: &mut Items<u8>, parts: &str, wanted: usize) -> Result<(), AllocError> {
     let mut part = 0_usize;
@@ -369,6 +444,17 @@ fn text_of(alloc: Global, row: &Many) -> Result<Items<u8>, AllocError> {
     add_many(&mut text, row, 3)?;
     add(&mut text, row.0, 4)?;
     Ok(text)
+}
+
+fn check_many(rt: &impl Abort, alloc: Global, rows: &[Many]) -> Result<(), Fail> {
+    for row in rows {
+        let text = text_of(alloc, row)?;
+        assert_eq!(rt;
+            (row.0, row.1, answer(alloc, text.as_slice())?),
+            (row.0, row.1, row.2)
+        );
+    }
+    Ok(())
 }
 
 #[test]
@@ -403,12 +489,10 @@ fn attributes_are_read(rt: HostRuntime) -> Result<(), Fail> {
 
 #[test]
 fn limits_are_kept(rt: HostRuntime) -> Result<(), Fail> {
-    for row in LIMITS {
-        let text = text_of(rt.alloc(), &row)?;
-        assert_eq!(rt;
-            (row.0, row.1, answer(rt.alloc(), text.as_slice())?),
-            (row.0, row.1, row.2)
-        );
-    }
-    Ok(())
+    check_many(&rt, rt.alloc(), &LIMITS)
+}
+
+#[test]
+fn furthest_readings_count(rt: HostRuntime) -> Result<(), Fail> {
+    check_many(&rt, rt.alloc(), &FURTHEST)
 }

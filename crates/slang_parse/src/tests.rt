@@ -22,7 +22,7 @@ fn answer_of(alloc: Global, text: &[u8]) -> Result<Answer, AllocError> {
     }
 }
 
-static TEXTS: [(&str, Answer); 10] = [
+static TEXTS: [(&str, Answer); 12] = [
     ("", Answer::Items(0)),
     ("struct S { } int f() { return 0; }", Answer::Items(2)),
     ("# x", Answer::Refused(102, 0, 1)),
@@ -44,6 +44,15 @@ static TEXTS: [(&str, Answer); 10] = [
     ),
     ("float f() { return 0; }", Answer::Refused(120, 0, 5)),
     ("Texture2D t;", Answer::Refused(122, 0, 9)),
+    // a name of 65 bytes, among generic arguments and behind an attribute
+    (
+        "void f() { x = a < b, nnnnnnnnnnnnnnnnnnnnnnnnnnnnnnnnnnnnnnnnnnnnnnnnnnnnnnnnnnnnnnnnn; }",
+        Answer::Refused(112, 22, 87),
+    ),
+    (
+        "[shader(\"compute\")] int nnnnnnnnnnnnnnnnnnnnnnnnnnnnnnnnnnnnnnnnnnnnnnnnnnnnnnnnnnnnnnnnn;",
+        Answer::Refused(123, 1, 7),
+    ),
 ];
 
 #[test]

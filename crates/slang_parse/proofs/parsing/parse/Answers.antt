@@ -1,11 +1,15 @@
-use Rattle.std.proofs.Common.{refl, sym, subst, ◌∙◌, ap, Err, Result}
+use Rattle.std.proofs.Common.{refl, sym, subst, ◌∙◌, ap, Err, Result, length}
 use Rattle.slang_tree.specs.declared.faults.ModuleFault.{ModuleFault}
 use Rattle.slang_tree.specs.declared.file.File.{File}
 use Rattle.slang_reading.specs.Lexed.{lexed_all}
 use Rattle.type_reading.specs.Limited.{language}
-use Rattle.file_reading.specs.Wholes.{Answers, Refuses}
+use Rattle.furthest_reading.specs.declared.verdicts.Verdict.{Verdict}
+use Rattle.furthest_reading.specs.Verdicts.{counted}
+use Rattle.file_reading.specs.Wholes.{Answers, Follows}
 use Rattle.slang_parse.specs.Parsing.{Spells}
-use Rattle.slang_parse.proofs.Texts.{ok_spells, each_file, each_refusal, refused_is}
+use Rattle.slang_parse.proofs.Texts.{ok_spells, each_file, refused_is}
+use Rattle.furthest_reading.proofs.Judging.{counted_no_file}
+use Rattle.slang_parse.proofs.Verdicts.{no_answer}
 use Rattle.slang_parse.proofs.parsing.parse.Goals as goal
 
 pub tree_of-requires : goal.tree_of-requires
@@ -44,14 +48,13 @@ returns-in-Err-clause-refused c = λ place code e.
 
 pub returns-in-Err-clause-limited : goal.returns-in-Err-clause-limited
 returns-in-Err-clause-limited c = λ tokens file spelled b short cut e.
-    let read = c.read_file.ensures in
-    subst (λ (r : Result File ModuleFault). Refuses b.place b.code r) c.in-Err.is
-    (each_refusal c.a_text_is_parsed_or_refused.ensures.all c.a_text_is_parsed_or_refused.ensures.answered c.args.text.now c.read_file.result read.long read.cut read.read b.place b.code
-    (c.the_first_break_is_told.ensures.broken c.args.text.now tokens file spelled b short cut e))
+    let v = c.the_first_break_is_told.ensures.broken c.args.text.now tokens file spelled b short cut e in
+    subst (λ (r : Result File ModuleFault). Follows tokens (length c.args.text.now) (counted c.args.text.now tokens b.code b.place) r) c.in-Err.is
+    (subst (λ (v : Verdict). Follows tokens (length c.args.text.now) v c.read_file.result) v (c.read_file.ensures.read tokens short cut))
 
 pub returns-in-Ok-clause-limited : goal.returns-in-Ok-clause-limited
 returns-in-Ok-clause-limited c = λ tokens file spelled b short cut e.
-    let read = c.read_file.ensures in
-    absurd (subst (λ (r : Result File ModuleFault). Refuses b.place b.code r) c.in-Ok.is
-    (each_refusal c.a_text_is_parsed_or_refused.ensures.all c.a_text_is_parsed_or_refused.ensures.answered c.args.text.now c.read_file.result read.long read.cut read.read b.place b.code
-    (c.the_first_break_is_told.ensures.broken c.args.text.now tokens file spelled b short cut e)))
+    let v = c.the_first_break_is_told.ensures.broken c.args.text.now tokens file spelled b short cut e in
+    let f = subst (λ (r : Result File ModuleFault). Follows tokens (length c.args.text.now) (counted c.args.text.now tokens b.code b.place) r) c.in-Ok.is
+    (subst (λ (v : Verdict). Follows tokens (length c.args.text.now) v c.read_file.result) v (c.read_file.ensures.read tokens short cut)) in
+    absurd (no_answer tokens (length c.args.text.now) (counted c.args.text.now tokens b.code b.place) c.in-Ok.file (counted_no_file c.args.text.now tokens b.code b.place) f)
