@@ -343,7 +343,7 @@ static LIMITS: [Many; 68] = [
 
 // Where generic arguments come further than an operator, or equally far; and attributes that do not fit, with a limit behind
 // them.
-static FURTHEST: [Many; 54] = [
+static FURTHEST: [Many; 56] = [
     ("void f() { x = a < b, $n$; }$$", 64, (110, 86, 87)),
     ("void f() { x = a < b, $n$; }$$", 65, (112, 22, 87)),
     ("void f() { x = a < b < c, $n$; }$$", 65, (112, 26, 91)),
@@ -408,6 +408,12 @@ static FURTHEST: [Many; 54] = [
     ("[shader(\"compute\")] A<$n$ b;$$", 65, (112, 22, 87)),
     ("[[vk::binding(0, 1)]] A<$n$ b() { }$$", 65, (112, 24, 89)),
     ("struct S { [mutating] a[$n$ b; }$$", 65, (112, 24, 89)),
+    ("struct S { [mutating] $n$> b; }$$", 65, (112, 22, 87)),
+    (
+        "struct S { [mutating] StructuredBuffer<A<$n$> b; }$$",
+        65,
+        (112, 41, 106),
+    ),
     ("struct S { [mutating] A<$n$, b c; }$$", 65, (112, 24, 89)),
     (
         "interface I { [mutating] static $n$ a(); }$$",

@@ -75,21 +75,26 @@ token_list None = []
 abbrev pub plain : List ℕ → List Token → ℕ → Option Token → List Token
 plain text tokens start follows = take start tokens ++ (added text (k.Word w.Int) ∷ added text k.Name ∷ token_list follows)
 
--- The token with that index is the declared name of a type that begins at the start: no bracket is open between them, and neither
--- a length nor what a resource holds is awaited. It stands at the token that is asked for, or behind it.
-abbrev pub declares : List Token → (start name at : ℕ) → Bool
-declares tokens start name at =
-    is_name (first (drop name tokens)) && (nat_le at name && ((open_between tokens start name (length tokens) == 0)
-    && (not (is_bracket (first (drop (name - 2) tokens))) && not (is_resource (first (drop (name - 1) tokens))))))
+-- Where the scan stops, the declared name stands: the brackets of the resource alone are open, and neither a length nor what
+-- another resource holds is awaited.
+abbrev pub is_whole : List Token → ℕ → Bool
+is_whole list stop = (open_between list 0 stop (length list) == 2) && (not (is_bracket (first (drop (stop - 2) list))) && not (is_resource (first (drop (stop - 1) list))))
+
+-- The token with that index is a declared name, and the token that is asked for stands before it or there.
+abbrev pub declares : List Token → (name at : ℕ) → Bool
+declares tokens name at = is_name (first (drop name tokens)) && nat_le at name
 
 abbrev pub misfit_at : List ℕ → List Token → (start name at byte : ℕ) → Option (ModuleCode × Place)
 misfit_at text tokens start name at byte =
-    if declares tokens start name at
+    if declares tokens name at
     then passed_before (runs strict 64 text (plain text tokens start (first (drop (name + 1) tokens)))) byte
     else None
 
+abbrev pub misfit_by : List ℕ → List Token → (start stop at byte : ℕ) → Option (ModuleCode × Place)
+misfit_by text tokens start stop at byte = if is_whole (held text tokens start) stop then misfit_at text tokens start (start + stop - 3) at byte else None
+
 abbrev pub misfit_from : List ℕ → List Token → (start at byte : ℕ) → Option (ModuleCode × Place)
-misfit_from text tokens start at byte = misfit_at text tokens start (start + scan_stop text (held text tokens start) - 3) at byte
+misfit_from text tokens start at byte = misfit_by text tokens start (scan_stop text (held text tokens start)) at byte
 
 -- the attribute that does not fit what is declared around the token with that index, which stands at that byte
 abbrev pub misfit : List ℕ → List Token → (at byte : ℕ) → Option (ModuleCode × Place)

@@ -112,7 +112,7 @@ fn opened(brackets: usize, inside: bool, token: Option<Token>) -> usize
 
 /// How many brackets are open between two tokens.
 pub(crate) fn open_between(tokens: &[Token], from: usize, to: usize) -> usize
-    requires { length tokens.now < 2 ^ 32 }
+    requires { length tokens.now < 2 ^ 33 }
     ensures { result ≡ spec.open_between tokens.now from to (length tokens.now) }
 {
     let mut brackets = 0;

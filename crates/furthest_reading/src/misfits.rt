@@ -150,17 +150,21 @@ fn plain(
     Ok(list)
 }
 
-/// Whether the token with that index is the declared name of a type that begins at the start, and the token that is asked for
-/// stands in either.
-fn declares(tokens: &[Token], start: usize, name: usize, at: usize) -> bool
-    requires { length tokens.now < 2 ^ 32 }
-    ensures { result ≡ spec.declares tokens.now start name at }
+/// Whether the declared name stands where the scan of a held type stops.
+fn is_whole(list: &[Token], stop: usize) -> bool
+    requires { length list.now < 2 ^ 33 }
+    ensures { result ≡ spec.is_whole list.now stop }
 {
-    is_name(token_at(tokens, name))
-        && at <= name
-        && open_between(tokens, start, name) == 0
-        && !is_bracket(token_at(tokens, name.saturating_sub(2)))
-        && !is_resource(token_at(tokens, name.saturating_sub(1)))
+    open_between(list, 0, stop) == 2
+        && !is_bracket(token_at(list, stop.saturating_sub(2)))
+        && !is_resource(token_at(list, stop.saturating_sub(1)))
+}
+
+/// Whether the token with that index is a declared name, and the token that is asked for stands before it or there.
+fn declares(tokens: &[Token], name: usize, at: usize) -> bool
+    ensures { result ≡ spec.declares tokens.now name at }
+{
+    is_name(token_at(tokens, name)) && at <= name
 }
 
 /// The attribute that does not fit what is declared with a type that begins at a token, and a name at another.
@@ -178,7 +182,7 @@ fn misfit_at(
     requires name { name + 1 < 2 ^ 64 }
     ensures { IfOk result (λ found. found ≡ spec.misfit_at text.now tokens.now start name at byte) }
 {
-    if !declares(tokens, start, name, at) {
+    if !declares(tokens, name, at) {
         return Ok(None);
     }
     let plain = plain(alloc, text, tokens, start, token_at(tokens, name + 1))?;
@@ -201,6 +205,9 @@ pub(crate) fn misfit(
     let start = type_start(tokens, at);
     let held = held(alloc, text, tokens, start)?;
     let stop = scan_stop(alloc, text, held.as_slice())?;
+    if !is_whole(held.as_slice(), stop) {
+        return Ok(None);
+    }
     let name = (start + stop).saturating_sub(3);
     misfit_at(alloc, text, tokens, start, name, at, byte)
 }
