@@ -1,0 +1,13 @@
+pub mod Attributes
+pub mod Changes
+pub mod DeclarationParts
+pub mod Declarations
+pub mod Expressions
+pub mod Going
+pub mod ItemWords
+pub mod Locals
+pub mod Scanned
+pub mod Spelled
+pub mod Statements
+pub mod Types
+pub mod Words
