@@ -1,6 +1,6 @@
 -- What a loop has made behind one more token.
-use Rattle.std.proofs.Common.{◌≡◌, ℕ, zero, suc, ◌+◌, List, [], ◌∷◌, ◌++◌, take, drop, Option, Some, None, refl, sym, ◌∙◌, ap, arith}
-use Rattle.std.proofs.lemmas.List.{append_assoc, append-nil}
+use Rattle.std.proofs.Common.{◌≡◌, ℕ, zero, suc, ◌+◌, ◌≤◌, length, List, [], ◌∷◌, ◌++◌, take, drop, Option, Some, None, refl, sym, ◌∙◌, ap, arith}
+use Rattle.std.proofs.lemmas.List.{append_assoc, append-nil, length-append}
 use Rattle.slang_tokens.specs.declared.tokens.Token.{Token}
 use Rattle.slang_reading.specs.Reading.{first}
 use Rattle.furthest_reading.specs.declared.fronts.Ahead.{Ahead}
@@ -27,6 +27,20 @@ operators_none text tokens target bound n list o s =
     o ∙ (sym (append-nil (operators text tokens target bound n))
     ∙ (ap (λ (x : Option Token). operators text tokens target bound n ++ operator_of (front text tokens n) target bound n (ahead_at text tokens n) x) s
     ∙ ap (operators text tokens target bound) (next n)))
+
+-- there are no more than tokens
+few_of : (f : Front) (target bound at : ℕ) (a : Ahead) (x : Option Token) → length (operator_of f target bound at a x) ≤ 1
+few_of f target bound at a (Some t) = omega arith
+few_of f target bound at a None = omega arith
+
+pub few_operators : (text : List ℕ) (tokens : List Token) (target bound n : ℕ) → length (operators text tokens target bound n) ≤ n
+few_operators text tokens target bound zero = omega arith
+few_operators text tokens target bound (suc n) =
+    let o = operator_of (front text tokens n) target bound n (ahead_at text tokens n) (first (drop n tokens)) in
+    let h = few_operators text tokens target bound n in
+    let l = length-append (operators text tokens target bound n) o in
+    let f = few_of (front text tokens n) target bound n (ahead_at text tokens n) (first (drop n tokens)) in
+    omega (arith, h, l, f)
 
 -- ---- one token more of a list
 

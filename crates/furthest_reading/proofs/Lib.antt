@@ -1,3 +1,4 @@
 pub mod Cursors
 pub mod Folds
 pub mod Judging
+pub mod Walking

@@ -1,5 +1,5 @@
 -- How far generic arguments ahead come, in a list of tokens.
-use Rattle.std.specs.Prelude.{ℕ, zero, suc, ◌-◌, max, Bool, false, ◌&&◌, ◌||◌, ◌==◌, nat_le, nat_lt, if◌then◌else◌, List, drop, Option, Some, None}
+use Rattle.std.specs.Prelude.{ℕ, zero, suc, ◌-◌, max, Bool, true, false, ◌&&◌, ◌||◌, ◌==◌, nat_le, nat_lt, if◌then◌else◌, List, drop, Option, Some, None}
 use Rattle.slang_tokens.specs.declared.tokens.Mark.TheVariants as m
 use Rattle.slang_tokens.specs.declared.tokens.Token.{Token}
 use Rattle.slang_reading.specs.Kinds.{is_mark}
@@ -49,3 +49,15 @@ reaches front target at (Stops to) = nat_le front.given at && (to == target)
 abbrev pub front : List ℕ → List Token → ℕ → Front
 front text tokens zero = begun
 front text tokens (suc n) = advanced (front text tokens n) n (ahead_at text tokens n)
+
+-- What begins at a token is told by the tokens up to the target, where operators end: arguments stop there at the most, and
+-- left of it where they begin behind the limit and before operators end.
+abbrev pub is_settled : (limit end target from : ℕ) → Ahead → Bool
+is_settled limit end target from Nothing = true
+is_settled limit end target from (Given to) = nat_le to target
+is_settled limit end target from (Stops to) = nat_lt to target || ((nat_le from limit || (from == end)) && (to == target))
+
+-- so it is of all that begins at one of so many tokens
+abbrev pub all_settled : List ℕ → List Token → (limit end target : ℕ) → ℕ → Bool
+all_settled text tokens limit end target zero = true
+all_settled text tokens limit end target (suc n) = all_settled text tokens limit end target n && is_settled limit end target n (ahead_at text tokens n)

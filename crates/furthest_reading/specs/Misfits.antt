@@ -87,7 +87,7 @@ declares tokens name at = is_name (first (drop name tokens)) && nat_le at name
 abbrev pub misfit_at : List ℕ → List Token → (start name at byte : ℕ) → Option (ModuleCode × Place)
 misfit_at text tokens start name at byte =
     if declares tokens name at
-    then passed_before (runs strict 64 text (plain text tokens start (first (drop (name + 1) tokens)))) byte
+    then passed_before (runs strict text (plain text tokens start (first (drop (name + 1) tokens)))) byte
     else None
 
 abbrev pub misfit_by : List ℕ → List Token → (start stop at byte : ℕ) → Option (ModuleCode × Place)

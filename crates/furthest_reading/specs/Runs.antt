@@ -15,19 +15,15 @@ use Rattle.furthest_reading.specs.declared.runs.Ran.TheVariants.{Read, Stopped, 
 abbrev pub strict : Limits
 strict = record { turns = 4194304; items = 256; names = 64; free = false }
 
--- no limits of lists and names
-abbrev pub loose : Limits
-loose = record { turns = 4194304; items = 4194304; names = 4194304; free = false }
-
 abbrev pub came : Outcome File → Ran
 came (Done file at seen) = Read file
 came (Stop seen) = Stopped (seen - 1)
 came (Past code place seen) = Passed code place (seen - 1)
 
--- what comes of the descent with those limits and so many nodes on a path; more tokens than turns are not read
-abbrev pub runs : Limits → ℕ → List ℕ → List Token → Ran
-runs limits nodes text tokens =
-    if nat_le (length tokens) limits.turns then came (files limits nodes (lexed_all text tokens) 0 0) else Stopped 0
+-- what comes of the descent with those limits, and 64 nodes on a path; more tokens than turns are not read
+abbrev pub runs : Limits → List ℕ → List Token → Ran
+runs limits text tokens =
+    if nat_le (length tokens) limits.turns then came (files limits 64 (lexed_all text tokens) 0 0) else Stopped 0
 
 -- what is passed before a byte, if something is
 abbrev pub passed_before : Ran → ℕ → Option (ModuleCode × Place)

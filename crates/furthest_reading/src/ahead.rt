@@ -1,6 +1,6 @@
 // Generic arguments ahead, and how far those of so many tokens come.
 
-ghost use Rattle.std.specs.Prelude.{◌≡◌, true, drop, IfOk};
+ghost use Rattle.std.specs.Prelude.{◌≡◌, ◌<◌, ◌+◌, ◌^◌, true, drop, IfOk};
 ghost use Rattle.slang_reading.specs.Lexed.{lexed_all};
 ghost use Rattle.slang_reading.specs.Reading.{first};
 ghost use Rattle.type_reading.specs.Scanning as scanning;
@@ -8,7 +8,7 @@ ghost use Rattle.ahead_reading.specs.Knowing as knowing;
 ghost use Rattle.ahead_reading.specs.Knowing.{Knows};
 ghost use Rattle.furthest_reading.specs.Fronts as spec;
 
-use crate::fronts::{Ahead, Front, advanced, begun};
+use crate::fronts::{Ahead, Front, advanced, begun, is_settled};
 use ahead_reading::{Scans, scan_known};
 use slang_reading::{Fault, Tokens, is_mark};
 use slang_tokens::{Kind, Mark, Token};
@@ -122,4 +122,26 @@ pub(crate) fn front(
         front = advanced(front, at, ahead(alloc, text, tokens, scans, at)?);
     }
     Ok(front)
+}
+
+/// Whether all arguments that begin up to where operators end are told by the tokens up to the target.
+pub(crate) fn all_settled(
+    alloc: Global,
+    text: &[u8],
+    tokens: &[Token],
+    scans: &Scans,
+    limit: usize,
+    end: usize,
+    target: usize,
+) -> Result<bool, AllocError>
+    requires knows { Knows scans.now (lexed_all text.now tokens.now) }
+    requires end { end + 1 < 2 ^ 64 }
+    ensures { IfOk result (λ b. b ≡ spec.all_settled text.now tokens.now limit end target (end + 1)) }
+{
+    let mut all = true;
+    for from in 0..end + 1 {
+        let ahead = ahead(alloc, text, tokens, scans, from)?;
+        all = all && is_settled(limit, end, target, from, ahead);
+    }
+    Ok(all)
 }

@@ -72,3 +72,15 @@ pub(crate) fn reaches(front: Front, target: usize, at: usize, ahead: Ahead) -> b
         Ahead::Stops(to) => front.given <= at && to == target,
     }
 }
+
+/// Whether what begins at the token with that index is told by the tokens up to the target, where operators end: generic
+/// arguments stop there at the most, and left of it where they begin behind the limit and before operators end.
+pub(crate) fn is_settled(limit: usize, end: usize, target: usize, from: usize, ahead: Ahead) -> bool
+    ensures { result ≡ spec.is_settled limit end target from ahead }
+{
+    match ahead {
+        Ahead::Nothing => true,
+        Ahead::Given(to) => to <= target,
+        Ahead::Stops(to) => to < target || (from <= limit || from == end) && to == target,
+    }
+}

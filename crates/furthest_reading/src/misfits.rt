@@ -10,7 +10,6 @@ use crate::runs::{STRICT, passed_before, run};
 use slang_grammar::{builtin_of, resource_of};
 use slang_reading::{Fault, Tokens, is_mark, is_word};
 use slang_tokens::{Kind, Mark, Token, Word};
-use slang_tree::limits::NESTING;
 use slang_tree::{ModuleCode, Place};
 use sqlite_items::Items;
 use std::alloc::{AllocError, Global};
@@ -186,7 +185,7 @@ fn misfit_at(
         return Ok(None);
     }
     let plain = plain(alloc, text, tokens, start, token_at(tokens, name + 1))?;
-    Ok(passed_before(run(alloc, text, plain.as_slice(), STRICT, NESTING)?, byte))
+    Ok(passed_before(run(alloc, text, plain.as_slice(), STRICT)?, byte))
 }
 
 /// The attribute that does not fit what is declared around the token with that index, which stands at that byte.

@@ -10,7 +10,7 @@ use ahead_reading::Scans;
 use declaration_reading::files;
 use slang_reading::{Fault, Tokens};
 use slang_tokens::Token;
-use slang_tree::limits::{LIST_ITEMS, NAME_BYTES};
+use slang_tree::limits::{LIST_ITEMS, NAME_BYTES, NESTING};
 use slang_tree::{File, ModuleCode, Place};
 use std::alloc::{AllocError, Global};
 use type_reading::Limits;
@@ -30,16 +30,6 @@ pub(crate) const STRICT: Limits = Limits {
     names: NAME_BYTES,
 };
 
-/// No limits of lists and names.
-pub(crate) const LOOSE: Limits = Limits {
-    turns: 4_194_304,
-    items: 4_194_304,
-    names: 4_194_304,
-};
-
-/// How many nodes may stand on a path where the limits are loose.
-pub(crate) const LOOSE_NODES: usize = 1_024;
-
 /// What is known of the scans of these tokens.
 pub(crate) fn scans_of(alloc: Global, text: &[u8], tokens: &[Token]) -> Result<Scans, AllocError>
     ensures { IfOk result (λ scans. Knows scans (lexed_all text.now tokens.now)) }
@@ -47,23 +37,21 @@ pub(crate) fn scans_of(alloc: Global, text: &[u8], tokens: &[Token]) -> Result<S
     Scans::new(alloc, tokens)
 }
 
-/// What the descent makes of these tokens, with those limits and so many nodes on a path. More tokens than turns are not
-/// read.
+/// What the descent makes of these tokens, with those limits. More tokens than turns are not read.
 pub(crate) fn run(
     alloc: Global,
     text: &[u8],
     tokens: &[Token],
     limits: Limits,
-    nodes: usize,
 ) -> Result<Ran, AllocError>
-    ensures { IfOk result (λ ran. ran ≡ spec.runs (limits_of limits) nodes text.now tokens.now) }
+    ensures { IfOk result (λ ran. ran ≡ spec.runs (limits_of limits) text.now tokens.now) }
 {
     if tokens.len() > limits.turns {
         return Ok(Ran::Stopped(0));
     }
     let scans = scans_of(alloc, text, tokens)?;
     let mut cursor = Tokens::new(text, tokens);
-    match files(alloc, limits, &scans, &mut cursor, nodes) {
+    match files(alloc, limits, &scans, &mut cursor, NESTING) {
         Ok(file) => Ok(Ran::Read(file)),
         Err(Fault::Memory(error)) => Err(error),
         Err(Fault::Stopped) => Ok(Ran::Stopped(cursor.last())),

@@ -1,19 +1,20 @@
 // What is told of the tokens of a text.
 
-ghost use Rattle.std.specs.Prelude.{◌≡◌, ◌<◌, ◌≤◌, ◌^◌, length, drop, IfOk};
+ghost use Rattle.std.specs.Prelude.{ℕ, Some, ◌≡◌, ◌<◌, ◌≤◌, ◌^◌, length, drop, IfOk};
 ghost use Rattle.slang_reading.specs.Lexed.{lexed_all};
 ghost use Rattle.ahead_reading.specs.Knowing.{Knows};
 ghost use Rattle.furthest_reading.specs.Verdicts as spec;
 
-use crate::ahead::{front, token_at};
+use crate::ahead::{all_settled, front, token_at};
 use crate::fronts::Front;
-use crate::lists::{before, completed, operators};
+use crate::lists::{completed, operators};
 use crate::misfits::misfit;
-use crate::runs::{LOOSE, LOOSE_NODES, Ran, STRICT, passed_before, run, scans_of};
+use crate::runs::{Ran, STRICT, run, scans_of};
+use ahead_reading::Scans;
 use slang_tokens::Token;
-use slang_tree::limits::NESTING;
 use slang_tree::{File, ModuleCode, Place};
 use std::alloc::{AllocError, Global};
+use token_walk::walk;
 use type_reading::LANGUAGE;
 
 /// What is told of tokens.
@@ -49,29 +50,61 @@ fn start_at(text: &[u8], tokens: &[Token], at: usize) -> u32
     }
 }
 
-/// A wrong token, or the limit that generic arguments passed on the way to it.
-fn forced(
+/// What is told of a wrong token that generic arguments come to, by what the descent makes of them: the limit that they passed
+/// on the way, or that token; nothing where it stops before, since no arguments begin there.
+fn told(ran: Ran, to: usize, byte: u32) -> Option<Verdict>
+    ensures { result ≡ spec.told ran to byte }
+{
+    match ran {
+        Ran::Read(file) => {
+            drop(file);
+            Some(Verdict::Wrong(to))
+        }
+        Ran::Stopped(last) => {
+            if last < to {
+                None
+            } else {
+                Some(Verdict::Wrong(to))
+            }
+        }
+        Ran::Passed(code, place, _) => {
+            if place.start < byte {
+                Some(Verdict::Broken(code, place))
+            } else {
+                Some(Verdict::Wrong(to))
+            }
+        }
+    }
+}
+
+/// The same of the last of so many tokens from which arguments come to the wrong one.
+fn argued(
     alloc: Global,
     text: &[u8],
     tokens: &[Token],
-    from: usize,
+    scans: &Scans,
+    count: usize,
     to: usize,
-) -> Result<Verdict, AllocError>
+) -> Result<Option<Verdict>, AllocError>
     requires text { length text.now < 2 ^ 32 }
     requires tokens { length tokens.now < 2 ^ 32 }
-    ensures { IfOk result (λ v. v ≡ spec.forced text.now tokens.now from to) }
+    requires knows { Knows scans.now (lexed_all text.now tokens.now) }
+    ensures { IfOk result (λ v. v ≡ spec.argued text.now tokens.now count to) }
 {
-    let list = completed(alloc, text, tokens, from, to)?;
-    let ran = run(alloc, text, list.as_slice(), STRICT, NESTING)?;
-    match passed_before(ran, start_at(text, tokens, to)) {
-        Some((code, place)) => Ok(Verdict::Broken(code, place)),
-        None => Ok(Verdict::Wrong(to)),
+    let front = front(alloc, text, tokens, scans, count)?;
+    if front.far != to {
+        return Ok(Some(Verdict::Wrong(to)));
     }
+    let before = operators(alloc, text, tokens, scans, to, front.from)?;
+    let list = completed(alloc, text, before.as_slice(), front.from, to)?;
+    let ran = run(alloc, text, list.as_slice(), STRICT)?;
+    Ok(told(ran, to, start_at(text, tokens, to)))
 }
 
 /// Where the descent stops before a token, if it does.
 fn stops_before(ran: Ran, to: usize) -> Option<usize>
-    ensures { result ≡ spec.stops_before ran to }
+    ensures is { result ≡ spec.stops_before ran to }
+    ensures within { (last : ℕ) → result ≡ Some last → last < to }
 {
     match ran {
         Ran::Read(file) => {
@@ -83,6 +116,30 @@ fn stops_before(ran: Ran, to: usize) -> Option<usize>
     }
 }
 
+/// What is told of a wrong token, where operators end at the token with that other index.
+fn ended_at(
+    alloc: Global,
+    text: &[u8],
+    tokens: &[Token],
+    scans: &Scans,
+    last: usize,
+    to: usize,
+) -> Result<Verdict, AllocError>
+    requires text { length text.now < 2 ^ 32 }
+    requires tokens { length tokens.now < 2 ^ 32 }
+    requires knows { Knows scans.now (lexed_all text.now tokens.now) }
+    requires last { last < to }
+    ensures { IfOk result (λ v. v ≡ spec.ended_at text.now tokens.now to last) }
+{
+    if let Some(verdict) = argued(alloc, text, tokens, scans, last + 1, to)? {
+        return Ok(verdict);
+    }
+    match argued(alloc, text, tokens, scans, last, to)? {
+        Some(verdict) => Ok(verdict),
+        None => Ok(Verdict::Wrong(to)),
+    }
+}
+
 /// What is told where the descent stops at the token with that index.
 fn stopped(alloc: Global, text: &[u8], tokens: &[Token], at: usize) -> Result<Verdict, AllocError>
     requires text { length text.now < 2 ^ 32 }
@@ -91,16 +148,9 @@ fn stopped(alloc: Global, text: &[u8], tokens: &[Token], at: usize) -> Result<Ve
 {
     let scans = scans_of(alloc, text, tokens)?;
     let list = operators(alloc, text, tokens, &scans, at, at)?;
-    match stops_before(run(alloc, text, list.as_slice(), STRICT, NESTING)?, at) {
+    match stops_before(run(alloc, text, list.as_slice(), STRICT)?, at) {
         None => Ok(Verdict::Wrong(at)),
-        Some(last) => {
-            let front = front(alloc, text, tokens, &scans, last + 1)?;
-            if front.far == at {
-                forced(alloc, text, tokens, front.from, at)
-            } else {
-                Ok(Verdict::Wrong(at))
-            }
-        }
+        Some(last) => ended_at(alloc, text, tokens, &scans, last, at),
     }
 }
 
@@ -121,44 +171,52 @@ fn index_at(tokens: &[Token], byte: u32) -> usize
     index
 }
 
-/// Whether no file goes on with the token of that index.
-fn is_wrong(alloc: Global, text: &[u8], tokens: &[Token], at: usize) -> Result<bool, AllocError>
-    requires { at < 2 ^ 32 }
-    ensures { IfOk result (λ b. b ≡ spec.is_wrong text.now tokens.now at) }
-{
-    match run(alloc, text, before(tokens, at + 1), LOOSE, LOOSE_NODES)? {
-        Ran::Read(file) => {
-            drop(file);
-            Ok(false)
-        }
-        Ran::Stopped(last) => Ok(last == at),
-        Ran::Passed(_, _, _) => Ok(false),
-    }
-}
-
-/// Whether the tokens from which arguments came to the target can all be operators, and go on to it.
-fn is_shared(
+/// Whether no file begins with the tokens up to the target, since operators end before it, also in what begins behind the
+/// token at which a limit was passed.
+fn ends_before(
     alloc: Global,
     text: &[u8],
     tokens: &[Token],
+    scans: &Scans,
+    at: usize,
     target: usize,
-    bound: usize,
 ) -> Result<bool, AllocError>
-    requires { target < 2 ^ 32 }
-    ensures { IfOk result (λ b. b ≡ spec.is_shared text.now tokens.now target bound) }
+    requires { Knows scans.now (lexed_all text.now tokens.now) }
+    ensures { IfOk result (λ b. b ≡ spec.ends_before text.now tokens.now at target) }
 {
-    let scans = scans_of(alloc, text, tokens)?;
-    let list = operators(alloc, text, tokens, &scans, target, bound)?;
-    let ran = run(
-        alloc,
-        text,
-        before(list.as_slice(), target + 1),
-        LOOSE,
-        LOOSE_NODES,
-    )?;
-    match stops_before(ran, target) {
-        Some(_) => Ok(false),
-        None => Ok(true),
+    match walk(alloc, text, tokens, scans, target)? {
+        None => Ok(false),
+        Some(end) => all_settled(alloc, text, tokens, scans, at, end, target),
+    }
+}
+
+/// What is told where generic arguments came to a wrong token, by what the descent makes of them: the limit that they passed
+/// before it, or else that token, if the descent came to it.
+fn counts(ran: Ran, to: usize, byte: u32, broken: (ModuleCode, Place)) -> Verdict
+    ensures { result ≡ spec.counts ran to byte broken }
+{
+    let (code, place) = broken;
+    match ran {
+        Ran::Read(file) => {
+            drop(file);
+            Verdict::Broken(code, place)
+        }
+        Ran::Stopped(last) => {
+            if to <= last {
+                Verdict::Wrong(to)
+            } else {
+                Verdict::Broken(code, place)
+            }
+        }
+        Ran::Passed(other, there, last) => {
+            if there.start < byte {
+                Verdict::Broken(other, there)
+            } else if to <= last {
+                Verdict::Wrong(to)
+            } else {
+                Verdict::Broken(code, place)
+            }
+        }
     }
 }
 
@@ -167,26 +225,31 @@ fn outrun(
     alloc: Global,
     text: &[u8],
     tokens: &[Token],
+    scans: &Scans,
     front: Front,
     at: usize,
     broken: (ModuleCode, Place),
 ) -> Result<Verdict, AllocError>
     requires text { length text.now < 2 ^ 32 }
     requires tokens { length tokens.now < 2 ^ 32 }
-    requires at { at < 2 ^ 32 }
+    requires knows { Knows scans.now (lexed_all text.now tokens.now) }
     ensures { IfOk result (λ v. v ≡ spec.outrun text.now tokens.now front at broken) }
 {
     let (code, place) = broken;
     if front.far <= at || front.far > tokens.len() {
         return Ok(Verdict::Broken(code, place));
     }
-    if !is_wrong(alloc, text, tokens, front.far)? {
+    if !ends_before(alloc, text, tokens, scans, at, front.far)? {
         return Ok(Verdict::Broken(code, place));
     }
-    if is_shared(alloc, text, tokens, front.far, at + 1)? {
-        return Ok(Verdict::Broken(code, place));
-    }
-    forced(alloc, text, tokens, front.from, front.far)
+    let list = completed(alloc, text, tokens, front.from, front.far)?;
+    let ran = run(alloc, text, list.as_slice(), STRICT)?;
+    Ok(counts(
+        ran,
+        front.far,
+        start_at(text, tokens, front.far),
+        (code, place),
+    ))
 }
 
 /// What is told where the descent passes a limit, or finds a rule on attributes broken.
@@ -210,7 +273,7 @@ fn passed(
     }
     let scans = scans_of(alloc, text, tokens)?;
     let front = front(alloc, text, tokens, &scans, at + 1)?;
-    outrun(alloc, text, tokens, front, at, (code, place))
+    outrun(alloc, text, tokens, &scans, front, at, (code, place))
 }
 
 /// What is told of the tokens of a text: the file that they spell within the limits, or their first refusal.
@@ -219,7 +282,7 @@ pub fn judge(alloc: Global, text: &[u8], tokens: &[Token]) -> Result<Verdict, Al
     requires tokens { length tokens.now ≤ 1048576 }
     ensures { IfOk result (λ v. v ≡ spec.verdict text.now tokens.now) }
 {
-    match run(alloc, text, tokens, LANGUAGE, NESTING)? {
+    match run(alloc, text, tokens, LANGUAGE)? {
         Ran::Read(file) => Ok(Verdict::Spelled(file)),
         Ran::Stopped(last) => stopped(alloc, text, tokens, last),
         Ran::Passed(code, place, _) => passed(alloc, text, tokens, code, place),

@@ -26,6 +26,7 @@ use declaration_laws::files_are_read;
 use declaration_limits::files_tell_the_limit;
 use fitting_laws::what_is_read_fits;
 use slang_tokens::{cut_or_refused, one_cutting};
+use walk_laws::files_are_walked;
 
 /// A text spells a file within the limits or is refused, and not both; it spells one file, and is refused at one place with
 /// one code. The descent answers the file that is spelled.
@@ -48,7 +49,9 @@ pub fn wrong_tokens_are_the_first()
     ensures { (text : List ℕ) (tokens : List Token) (at : ℕ) → length tokens ≤ text_limit → verdict text tokens ≡ Wrong at → FirstWrong (lexed_all text tokens) at }
 {
     files_go_on();
+    limits_go_on();
     files_are_read();
+    files_are_walked();
 }
 
 /// Tokens spell one file. Of two files that the same tokens spell, one of which keeps some limits, however large, and the rules
@@ -89,5 +92,6 @@ pub fn the_first_break_is_told()
     limits_go_on();
     files_go_on();
     files_are_read();
+    files_are_walked();
     files_tell_the_limit();
 }
