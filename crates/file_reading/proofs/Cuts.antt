@@ -1,10 +1,8 @@
 -- A text has one first refusal, and no more tokens than bytes.
-use Rattle.std.proofs.Common.{◌≡◌, ℕ, zero, suc, ◌+◌, ◌-◌, ◌<◌, ◌≤◌, List, [], ◌∷◌, length, take, drop, map, Err, Result, refl, sym, ◌∙◌, ap, subst, arith, length-drop, ◌⊎◌, inl, inr}
+use Rattle.std.proofs.Common.{◌≡◌, ℕ, zero, suc, ◌+◌, ◌-◌, ◌<◌, ◌≤◌, List, length, take, drop, Err, Result, refl, sym, ◌∙◌, ap, subst, arith, length-drop, ◌⊎◌, inl, inr}
 use Rattle.std.proofs.lemmas.List.{length-map}
 use Rattle.slang_tree.specs.declared.places.Place.{Place}
 use Rattle.slang_tree.specs.declared.codes.ModuleCode.{ModuleCode}
-use Rattle.slang_tree.specs.declared.codes.ModuleCode.TheVariants as code
-use Rattle.slang_tokens.specs.declared.tokens.Kind.{Kind}
 use Rattle.slang_tokens.specs.declared.tokens.Token.{Token}
 use Rattle.slang_tokens.specs.declared.lexemes.Lexeme.{Lexeme}
 use Rattle.slang_tokens.specs.declared.lexemes.Lexeme.TheVariants as x

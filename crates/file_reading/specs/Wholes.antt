@@ -1,5 +1,5 @@
 -- What a text that is cut into tokens is answered.
-use Rattle.std.specs.Prelude.{◌≡◌, ℕ, List, drop, length, Option, Some, None, Result, Ok, Err}
+use Rattle.std.specs.Prelude.{◌≡◌, ℕ, List, drop, Option, Some, None, Result, Ok, Err}
 use Rattle.slang_tree.specs.declared.places.Place.{Place}
 use Rattle.slang_tree.specs.declared.codes.ModuleCode.{ModuleCode}
 use Rattle.slang_tree.specs.declared.codes.ModuleCode.TheVariants as code

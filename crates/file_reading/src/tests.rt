@@ -343,7 +343,7 @@ static LIMITS: [Many; 68] = [
 
 // Where generic arguments come further than an operator, or equally far; and attributes that do not fit, with a limit behind
 // them.
-static FURTHEST: [Many; 56] = [
+static FURTHEST: [Many; 64] = [
     ("void f() { x = a < b, $n$; }$$", 64, (110, 86, 87)),
     ("void f() { x = a < b, $n$; }$$", 65, (112, 22, 87)),
     ("void f() { x = a < b < c, $n$; }$$", 65, (112, 26, 91)),
@@ -392,6 +392,15 @@ static FURTHEST: [Many; 56] = [
     ("void f() { x = a<$a<$a; }$$", 100, (111, 138, 139)),
     ("void f() { g(a<$a<$a, b c); }$$", 100, (111, 134, 135)),
     ("void f() { g(a<$a<$a, b); }$$", 100, (111, 134, 135)),
+    // Behind the name of one more local no arguments begin.
+    ("A f(){A x=a<b,c<$n$$$", 65, (112, 16, 81)),
+    ("A f(){for(A x=a<1,c<$n$$$", 65, (112, 20, 85)),
+    ("A f(){A x=a<1,c<$n$> e$$", 65, (112, 16, 81)),
+    ("A f(){A x=$~$a<b,c<d$$", 60, (111, 76, 77)),
+    ("A f(){A x=$~$a<b.c.d.e,c<d f$$", 58, (111, 75, 76)),
+    ("A f(){A x=a<b,c<$1,$d e$$", 257, (112, 528, 529)),
+    ("A f(){A x=a<$b,$c<d$$", 257, (112, 524, 525)),
+    ("void f() { int x = a < b, c < $n$; }$$", 65, (112, 30, 95)),
     // Arguments that are settled, in one another.
     ("void f() { x = a < $b<$int$>$(1); }", 1000, (111, 141, 142)),
     // Attributes.
@@ -419,6 +428,116 @@ static FURTHEST: [Many; 56] = [
         "interface I { [mutating] static $n$ a(); }$$",
         65,
         (123, 15, 23),
+    ),
+];
+
+// The same of chains that no descent goes to the end of: operators end in them, or at a comma behind them, or go on.
+static DEEP: [Many; 22] = [
+    ("void f() { x = a + a < b$.b$; }$$", 1100, (111, 144, 145)),
+    (
+        "void f() { x = a + a < b$.b$, c d; }$$",
+        1100,
+        (111, 142, 143),
+    ),
+    (
+        "void f() { g(a + a < b$.b$, c d); }$$",
+        1100,
+        (111, 140, 141),
+    ),
+    (
+        "void f() { x = a + a$ < b$, c d; }$$",
+        1100,
+        (111, 261, 262),
+    ),
+    (
+        "void f() { x = a + a < b$[3]$, c d; }$$",
+        1100,
+        (111, 204, 205),
+    ),
+    (
+        "void f() { int y = a + a < b$.b$, c d; }$$",
+        1100,
+        (111, 148, 149),
+    ),
+    (
+        "void f() { int y = a + a < b$.b$, c.e f; }$$",
+        1100,
+        (111, 146, 147),
+    ),
+    (
+        "void f() { int y = a + a < b$.b$, c < e f; }$$",
+        1100,
+        (111, 146, 147),
+    ),
+    (
+        "void f() { x = a + a < b$.b$>, c d; }$$",
+        1100,
+        (111, 144, 145),
+    ),
+    (
+        "void f() { x = a + a < c < b$.b$>, c d; }$$",
+        1100,
+        (111, 144, 145),
+    ),
+    (
+        "void f() { g(a + a < b$.b$, int, c d); }$$",
+        1100,
+        (111, 138, 139),
+    ),
+    (
+        "void f() { g(a + a < b$.b$, StructuredBuffer<c d); }$$",
+        1100,
+        (111, 138, 139),
+    ),
+    (
+        "void f() { x[a + a < b$.b$, c d] = 1; }$$",
+        1100,
+        (111, 138, 139),
+    ),
+    (
+        "void f() { x = p ? a + a < b$.b$, c d : 1; }$$",
+        1100,
+        (111, 144, 145),
+    ),
+    (
+        "void f() { int y[2] = { a + a < b$.b$, c d }; }$$",
+        1100,
+        (111, 151, 152),
+    ),
+    (
+        "void f() { for (x = a + a < b$.b$, c d; ;) ; }$$",
+        1100,
+        (111, 147, 148),
+    ),
+    (
+        "static const int y = a + a < b$.b$, c d;$$",
+        1100,
+        (111, 152, 153),
+    ),
+    (
+        "void f() { x = a + a < c < b$.b$> > + d; }$$",
+        1100,
+        (111, 144, 145),
+    ),
+    (
+        "void f() { x = a + a < c < b$.b$>> + d; }$$",
+        1100,
+        (111, 148, 149),
+    ),
+    (
+        "void f() { x = a + a < b$<c>.b$, c d; }$$",
+        1100,
+        (111, 322, 323),
+    ),
+    (
+        "void f() { x = a + a < b$.b$, c < d, e f; }$$",
+        1100,
+        (111, 142, 143),
+    ),
+    (
+        "void f() { g(a + a < b$.b$, c < d, e f); }$$",
+        1100,
+        (111, 140, 141),
     ),
 ];
 
@@ -501,4 +620,9 @@ fn limits_are_kept(rt: HostRuntime) -> Result<(), Fail> {
 #[test]
 fn furthest_readings_count(rt: HostRuntime) -> Result<(), Fail> {
     check_many(&rt, rt.alloc(), &FURTHEST)
+}
+
+#[test]
+fn deep_readings_count(rt: HostRuntime) -> Result<(), Fail> {
+    check_many(&rt, rt.alloc(), &DEEP)
 }

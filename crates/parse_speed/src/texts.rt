@@ -8,7 +8,7 @@ pub struct Text {
     pub back: &'static str,
 }
 
-pub static TEXTS: [Text; 16] = [
+pub static TEXTS: [Text; 18] = [
     // each `<` may begin generic arguments, and none does
     Text {
         name: "less and less",
@@ -46,6 +46,19 @@ pub static TEXTS: [Text; 16] = [
         front: "typedef ",
         unit: "A<",
         back: "int x;",
+    },
+    // generic arguments that come further than the operators that pass a limit
+    Text {
+        name: "names that come further",
+        front: "void f() { x = a+a<b",
+        unit: ".b",
+        back: ",c d; }",
+    },
+    Text {
+        name: "less that comes further",
+        front: "void f() { x = a",
+        unit: "<a",
+        back: ",b c; }",
     },
     // statements that may begin with a type
     Text {

@@ -1,6 +1,5 @@
-use Rattle.std.proofs.Common.{rules, ◌≡◌, ◌≤◌, ℕ, List, length, ap, subst, sym}
+use Rattle.std.proofs.Common.{rules, ◌≡◌, ◌≤◌, List, length, subst, sym}
 use Rattle.slang_tokens.specs.declared.tokens.Token.{Token}
-use Rattle.slang_tokens.specs.Cutting.{Tokens}
 use Rattle.slang_tokens.proofs.Cuts.{none_refused}
 use Rattle.file_reading.proofs.Cuts.{few, refused_at}
 use Rattle.file_reading.proofs.whole.read_file.Goals as goal
