@@ -50,8 +50,8 @@ abbrev pub front : List ℕ → List Token → ℕ → Front
 front text tokens zero = begun
 front text tokens (suc n) = advanced (front text tokens n) n (ahead_at text tokens n)
 
--- What begins at a token is told by the tokens up to the target, where operators end: arguments stop there at the most, and
--- left of it where they begin behind the limit and before operators end.
+-- What begins at a token is told by the tokens up to the target: arguments stop there at the most. Those that begin behind the
+-- limit and before operators end stop left of it, since else they would come as far with the operators before them.
 abbrev pub is_settled : (limit end target from : ℕ) → Ahead → Bool
 is_settled limit end target from Nothing = true
 is_settled limit end target from (Given to) = nat_le to target

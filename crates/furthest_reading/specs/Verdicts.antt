@@ -90,8 +90,8 @@ abbrev pub index_at : List Token → ℕ → ℕ → ℕ
 index_at tokens byte zero = 0
 index_at tokens byte (suc n) = index_next byte (index_at tokens byte n) n (first (drop n tokens))
 
--- Operators end before the target, and no arguments that begin between the token at which a limit was passed and there come as
--- far: so no file begins with the tokens up to the target.
+-- Operators end before the target, so that no file begins with the tokens up to it; and no arguments come as far that begin
+-- behind the token at which a limit was passed and before operators end.
 abbrev pub ends_by : List ℕ → List Token → (at target : ℕ) → Option ℕ → Bool
 ends_by text tokens at target None = false
 ends_by text tokens at target (Some end) = all_settled text tokens at end target (end + 1)

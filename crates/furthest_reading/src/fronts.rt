@@ -73,8 +73,9 @@ pub(crate) fn reaches(front: Front, target: usize, at: usize, ahead: Ahead) -> b
     }
 }
 
-/// Whether what begins at the token with that index is told by the tokens up to the target, where operators end: generic
-/// arguments stop there at the most, and left of it where they begin behind the limit and before operators end.
+/// Whether what begins at the token with that index is told by the tokens up to the target: generic arguments stop there at
+/// the most. Those that begin behind the limit and before operators end stop left of it, since else they would come as far
+/// with the operators before them.
 pub(crate) fn is_settled(limit: usize, end: usize, target: usize, from: usize, ahead: Ahead) -> bool
     ensures { result ≡ spec.is_settled limit end target from ahead }
 {

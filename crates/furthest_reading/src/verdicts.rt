@@ -171,8 +171,8 @@ fn index_at(tokens: &[Token], byte: u32) -> usize
     index
 }
 
-/// Whether no file begins with the tokens up to the target, since operators end before it, also in what begins behind the
-/// token at which a limit was passed.
+/// Whether operators end before the target, so that no file begins with the tokens up to it, and no arguments come as far that
+/// begin behind the token at which a limit was passed and before operators end.
 fn ends_before(
     alloc: Global,
     text: &[u8],

@@ -1,6 +1,7 @@
 -- The walk through tokens. It has no tree and passes no limit: what is open is a list, and each token does one thing. Each `<`
--- in an expression that begins no generic arguments is an operator, so the walk ends at a token with which, in this reading,
--- no file goes on; not at each such token, but at each name, number, word of a type and mark of `. < > , [ ]` that is one.
+-- in an expression that begins no generic arguments is an operator, and the walk ends at a token with which, in this reading, no
+-- file goes on. In an expression, and in locals behind a comma that follows a value, it ends at each name, number, word of a type
+-- and mark of `. < > , [ ]` that is such a token; elsewhere, and at other tokens, it may go on.
 use Rattle.std.specs.Prelude.{ℕ, zero, suc, ◌+◌, ◌==◌, if◌then◌else◌, List, [], ◌∷◌, drop, Option, Some, None}
 use Rattle.slang_tokens.specs.declared.tokens.Kind.{Kind}
 use Rattle.slang_tokens.specs.declared.tokens.Kind.TheVariants as k

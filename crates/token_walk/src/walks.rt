@@ -172,9 +172,10 @@ impl Walker {
     }
 }
 
-/// The first of so many tokens with which no file goes on where each `<` in an expression is an operator, if it begins no
-/// generic arguments that `(` or `.` follows; as far as that is told by names, numbers, words of types, and the marks that
-/// stand in generic arguments. The time is linear in the number of tokens, and what is open is kept in a list.
+/// The first of so many tokens at which the walk ends: no file goes on with it where each `<` in an expression is an operator
+/// that begins no generic arguments which `(` or `.` follows. In an expression that is told of names, numbers, words of types,
+/// and the marks that stand in generic arguments; of other tokens, and in types and declarations, the walk may go on. The time
+/// is linear in the number of tokens, and what is open is kept in a list.
 pub fn walk(
     alloc: Global,
     text: &[u8],
