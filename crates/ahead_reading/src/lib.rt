@@ -8,6 +8,3 @@ mod scans;
 
 pub use ahead::{arguments_follow, scan_known};
 pub use scans::{Known, Scans};
-
-#[cfg(test)]
-mod tests;

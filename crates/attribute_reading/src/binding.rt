@@ -7,9 +7,10 @@ ghost use Rattle.statement_grammar.specs.AttributesDescent as spec;
 ghost use Rattle.type_reading.specs.Limited.{limits_of};
 
 use crate::known::admits;
+use slang_names::{ModuleCode, Number, Place};
 use slang_reading::{Fault, Tokens, span};
 use slang_tokens::{Kind, Mark};
-use slang_tree::{Attribute, AttributeNode, ModuleCode, Number, Place};
+use slang_tree::{Attribute, AttributeNode};
 use sqlite_items::Items;
 use statement_grammar::{KnownAttribute, Target};
 use type_reading::{Limits, expect};

@@ -5,7 +5,7 @@ ghost use Rattle.std.specs.List.{list_all};
 ghost use Rattle.statement_grammar.specs.AttributeTables as tables;
 ghost use Rattle.statement_grammar.specs.AttributesDescent as spec;
 
-use slang_tree::Place;
+use slang_names::Place;
 use statement_grammar::{KnownAttribute, Target, may_stand};
 
 fn attribute_code(known: KnownAttribute) -> u8

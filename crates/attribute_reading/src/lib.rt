@@ -12,6 +12,3 @@ mod wants;
 pub use given::attributes;
 pub use names::{declared_name, lengths};
 pub use suits::misfit;
-
-#[cfg(test)]
-mod tests;

@@ -10,9 +10,10 @@ ghost use Rattle.statement_grammar.specs.AttributesDescent as spec;
 ghost use Rattle.type_reading.specs.Limited.{limits_of};
 
 use crate::wants::Wants;
+use slang_names::{ModuleCode, Name, Place};
 use slang_reading::{Fault, Tokens, is_mark};
 use slang_tokens::{Kind, Mark};
-use slang_tree::{Literal, ModuleCode, Name, Place};
+use slang_tree::Literal;
 use sqlite_items::Items;
 use std::alloc::Global;
 use type_reading::{Limits, expect};

@@ -8,9 +8,10 @@ ghost use Rattle.slang_tokens.specs.declared.tokens.Mark.TheVariants as m;
 ghost use Rattle.statement_grammar.specs.StatementsDescent as spec;
 ghost use Rattle.type_reading.specs.Limited.{limits_of};
 
+use slang_names::{ModuleCode, Place};
 use slang_reading::{Fault, Tokens};
 use slang_tokens::Mark;
-use slang_tree::{DeclaredName, ModuleCode, Place, Term};
+use slang_tree::{DeclaredName, Term};
 use sqlite_items::Items;
 use std::alloc::Global;
 use type_reading::{Limits, bracketed, expect, name};

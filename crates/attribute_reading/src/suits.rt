@@ -3,7 +3,7 @@
 ghost use Rattle.std.specs.Prelude.{◌≡◌};
 ghost use Rattle.statement_grammar.specs.AttributesDescent as spec;
 
-use slang_tree::Place;
+use slang_names::Place;
 use statement_grammar::{KnownAttribute, Target, may_stand};
 
 /// Where the name of the first attribute lies that may not stand there.

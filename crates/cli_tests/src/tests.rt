@@ -7,8 +7,8 @@ mod runs;
 mod shaders;
 
 use slang_cli::{Outcome, slangc};
+use slang_names::Name;
 use slang_store::{Files, MemoryFiles, MemorySink};
-use slang_tree::Name;
 use std::alloc::Global;
 use std::test::Fail;
 

@@ -7,7 +7,7 @@ use Rattle.std.specs.Result.{OkIff}
 use Rattle.std.proofs.lemmas.Str.Parse.{IsDigitsTest, IsNumeralModel, numerals_by_value, parse_digits}
 use Rattle.std.proofs.lemmas.Fmt.{decimal-digits_value, digits_decimal, digits_value-decimal, decimal_nonempty, first_decimal, decimal_digit}
 use Rattle.std.proofs.lemmas.Bool.Decides.{nat_tests}
-use Rattle.slang_tree.specs.Letters.{is_digit}
+use Rattle.slang_names.specs.Letters.{is_digit}
 use Rattle.command_words.specs.Words.{is_number, up_to, number_within}
 
 abbrev pub AreDigits : List ℕ → Type 0

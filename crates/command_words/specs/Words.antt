@@ -2,7 +2,7 @@
 use Rattle.std.specs.Prelude.{ℕ, Bool, ◌&&◌, ◌||◌, ◌==◌, not, nat_le, List, length, codes, Option, Some, None, if◌then◌else◌, bytes_eq, slice_index}
 use Rattle.std.specs.List.{list_all}
 use Rattle.std.specs.Str.Parse.{digits_value}
-use Rattle.slang_tree.specs.Letters.{is_digit, is_word_byte, is_name}
+use Rattle.slang_names.specs.Letters.{is_digit, is_word_byte, is_name}
 
 -- a name of at most 64 bytes
 abbrev pub is_short_name : List ℕ → Bool

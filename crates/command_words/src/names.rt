@@ -4,7 +4,7 @@ ghost use Rattle.std.specs.Prelude.{◌≡◌};
 ghost use Rattle.std.specs.List.{list_all};
 ghost use Rattle.command_words.specs.Words as spec;
 
-use slang_tree::{is_name, is_word_byte, limits};
+use slang_names::{is_name, is_word_byte, limits};
 
 /// Whether the word is a name of at most 64 bytes.
 pub fn is_short_name(word: &[u8]) -> bool

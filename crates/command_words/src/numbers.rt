@@ -2,7 +2,7 @@
 
 ghost use Rattle.std.specs.Prelude.{◌≡◌, string_bytes};
 ghost use Rattle.std.specs.List.{list_all};
-ghost use Rattle.slang_tree.specs.Letters as letters;
+ghost use Rattle.slang_names.specs.Letters as letters;
 ghost use Rattle.command_words.specs.Words as spec;
 
 /// Whether the word has digits alone, at least one, and no 0 before others.

@@ -15,8 +15,8 @@ use Rattle.slang_core.specs.declared.bodies.Call.TheOpen.{Call-F, Expr-F, Given-
 use Rattle.slang_core.specs.declared.bodies.Call.TheOpen as part
 use Rattle.slang_core.specs.declared.bodies.Stat.TheOpen.{Stat-F}
 use Rattle.slang_core.specs.declared.bodies.Stat.TheOpen as stat
-use Rattle.slang_tree.specs.declared.names.Ref.{Ref}
-use Rattle.slang_tree.specs.declared.places.Value.{Value}
+use Rattle.slang_names.specs.declared.names.Ref.{Ref}
+use Rattle.slang_names.specs.declared.places.Value.{Value}
 use Rattle.slang_core.specs.declared.types.Arg.{Arg}
 use Rattle.slang_core.specs.declared.types.TypeTerm.{TypeTerm}
 use Rattle.slang_core.specs.declared.evidence.Evidence.{Evidence}

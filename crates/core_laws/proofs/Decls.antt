@@ -1,9 +1,9 @@
 -- The trees of declarations tell the declarations.
 use Rattle.std.proofs.Common.{◌≡◌, Bool, true, false, [], ◌∷◌, get_or, refl, sym, ap, ◌∙◌, arith}
-use Rattle.slang_tree.specs.declared.places.Access.{Access}
-use Rattle.slang_tree.specs.declared.places.Access.TheVariants.{Public, Internal, Private}
-use Rattle.slang_tree.specs.declared.places.Mode.{Mode}
-use Rattle.slang_tree.specs.declared.places.Mode.TheVariants.{In, Out, InOut}
+use Rattle.slang_names.specs.declared.places.Access.{Access}
+use Rattle.slang_names.specs.declared.places.Access.TheVariants.{Public, Internal, Private}
+use Rattle.slang_names.specs.declared.places.Mode.{Mode}
+use Rattle.slang_names.specs.declared.places.Mode.TheVariants.{In, Out, InOut}
 use Rattle.slang_core.specs.declared.types.TypeTerm.{TypeTerm}
 use Rattle.slang_core.specs.declared.declarations.AliasDecl.{AliasDecl}
 use Rattle.slang_core.specs.declared.declarations.Assoc.{Assoc}

@@ -1,8 +1,8 @@
 -- The trees of lists, options and leaves tell what spells them.
 use Rattle.std.proofs.Common.{◌≡◌, ℕ, List, [], ◌∷◌, Option, Some, None, map, refl, ap, ◌∙◌}
-use Rattle.slang_tree.specs.declared.names.Ref.{Ref}
-use Rattle.slang_tree.specs.declared.places.Value.{Value}
-use Rattle.slang_tree.specs.declared.places.Value.TheVariants.{Number, Parameter}
+use Rattle.slang_names.specs.declared.names.Ref.{Ref}
+use Rattle.slang_names.specs.declared.places.Value.{Value}
+use Rattle.slang_names.specs.declared.places.Value.TheVariants.{Number, Parameter}
 use Rattle.slang_core.specs.declared.types.Scalar.{Scalar}
 use Rattle.slang_core.specs.declared.types.Scalar.TheVariants as scalar
 use Rattle.slang_core.specs.TypeTrees.{option_of, ref_tree, value_tree, scalar_tree}

@@ -1,9 +1,9 @@
 -- Declarations are of the form exactly where they are plain.
 use Rattle.std.proofs.Common.{Bool, true, false, refl, arith}
-use Rattle.slang_tree.specs.declared.places.Access.{Access}
-use Rattle.slang_tree.specs.declared.places.Access.TheVariants.{Public, Internal, Private}
-use Rattle.slang_tree.specs.declared.places.Mode.{Mode}
-use Rattle.slang_tree.specs.declared.places.Mode.TheVariants.{In, Out, InOut}
+use Rattle.slang_names.specs.declared.places.Access.{Access}
+use Rattle.slang_names.specs.declared.places.Access.TheVariants.{Public, Internal, Private}
+use Rattle.slang_names.specs.declared.places.Mode.{Mode}
+use Rattle.slang_names.specs.declared.places.Mode.TheVariants.{In, Out, InOut}
 use Rattle.slang_core.specs.declared.declarations.Assoc.{Assoc}
 use Rattle.slang_core.specs.declared.declarations.Bind.{Bind}
 use Rattle.slang_core.specs.declared.declarations.Binding.{Binding}

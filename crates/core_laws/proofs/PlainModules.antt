@@ -1,6 +1,6 @@
 -- Modules are of the form exactly where they are plain.
 use Rattle.std.proofs.Common.{ℕ, ◌<◌, refl, arith}
-use Rattle.slang_tree.specs.declared.form_codes.FormCode.{FormCode}
+use Rattle.slang_names.specs.declared.form_codes.FormCode.{FormCode}
 use Rattle.slang_core.specs.declared.declarations.CoreModule.{CoreModule}
 use Rattle.slang_core.specs.DeclarationTrees.{interface_tree}
 use Rattle.slang_core.specs.BodyTrees.{body_tree}

@@ -1,7 +1,7 @@
 -- Functions, aliases, fields, members and structs: what was looked at of one, but for the last token, goes on to be one.
 use Rattle.std.proofs.Common.{Bool, true, false, ◌≡◌, ℕ, ◌+◌, ◌<◌, List, [], ◌∷◌, ◌++◌, not, length, Option, refl, ap, if◌then◌else◌, arith}
-use Rattle.slang_tree.specs.declared.places.Place.{Place}
-use Rattle.slang_tree.specs.declared.codes.ModuleCode.TheVariants as code
+use Rattle.slang_names.specs.declared.places.Place.{Place}
+use Rattle.slang_names.specs.declared.codes.ModuleCode.TheVariants as code
 use Rattle.slang_tree.specs.declared.statements.DeclaredName.{DeclaredName}
 use Rattle.slang_tree.specs.declared.declarations.InnerMember.{InnerMember}
 use Rattle.slang_tree.specs.declared.declarations.InnerMemberNode.{InnerMemberNode}

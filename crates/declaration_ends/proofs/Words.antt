@@ -1,7 +1,7 @@
 -- Words, access words and rules on attributes: what was looked at, but for the last token, goes on.
 use Rattle.std.proofs.Common.{Bool, true, false, ◌≡◌, ℕ, [], ◌∷◌, List, Option, Some, None, refl, ap, eq-eqb, if◌then◌else◌}
-use Rattle.slang_tree.specs.declared.places.Place.{Place}
-use Rattle.slang_tree.specs.declared.places.Access.{Access}
+use Rattle.slang_names.specs.declared.places.Place.{Place}
+use Rattle.slang_names.specs.declared.places.Access.{Access}
 use Rattle.slang_tokens.specs.declared.tokens.Kind.TheVariants as k
 use Rattle.slang_tokens.specs.declared.tokens.Word.{Word}
 use Rattle.slang_reading.specs.Lexed.{Lexed}

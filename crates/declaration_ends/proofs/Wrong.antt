@@ -1,7 +1,7 @@
 -- Whole files: some file begins with the tokens before the one at which the descent stops, and none with that one too.
 use Rattle.std.proofs.Common.{◌≡◌, ℕ, suc, ◌+◌, ◌<◌, ◌≤◌, List, ◌++◌, length, take, refl, sym, ◌∙◌, ap, subst, arith}
-use Rattle.slang_tree.specs.declared.places.Place.{Place}
-use Rattle.slang_tree.specs.declared.codes.ModuleCode.{ModuleCode}
+use Rattle.slang_names.specs.declared.places.Place.{Place}
+use Rattle.slang_names.specs.declared.codes.ModuleCode.{ModuleCode}
 use Rattle.slang_tree.specs.declared.file.File.{File}
 use Rattle.slang_reading.specs.Lexed.{Lexed}
 use Rattle.slang_reading.specs.Reading.{Outcome, Done, Stop, Past, bind, next}

@@ -1,8 +1,8 @@
 // Laws of the descent against the grammar, each the contract of a function that does nothing.
 
 ghost use Rattle.std.specs.Prelude.{◌≡◌, ◌+◌, ◌<◌, ◌≤◌, ◌++◌, List, ℕ, length, take};
-ghost use Rattle.slang_tree.specs.declared.places.Place.{Place};
-ghost use Rattle.slang_tree.specs.declared.codes.ModuleCode.{ModuleCode};
+ghost use Rattle.slang_names.specs.declared.places.Place.{Place};
+ghost use Rattle.slang_names.specs.declared.codes.ModuleCode.{ModuleCode};
 ghost use Rattle.slang_tree.specs.declared.file.File.{File};
 ghost use Rattle.slang_reading.specs.Lexed.{Lexed};
 ghost use Rattle.slang_reading.specs.Reading.{Done, Stop, Past};

@@ -1,7 +1,7 @@
 -- Functions, aliases and fields: what is spelled within the limits is read.
 use Rattle.std.proofs.Common.{◌≤◌, if◌then◌else◌, subst, sym, ◌∙◌, arith, Bool, true, false, ◌≡◌, ℕ, zero, suc, ◌+◌, List, [], ◌∷◌, ◌++◌, drop, Option, Some, None, refl, ap}
 use Rattle.std.specs.List.{list_all}
-use Rattle.slang_tree.specs.declared.places.Place.{Place}
+use Rattle.slang_names.specs.declared.places.Place.{Place}
 use Rattle.slang_tree.specs.declared.types.Identifier.{Identifier}
 use Rattle.slang_tree.specs.declared.types.Term.{Term}
 use Rattle.slang_tree.specs.declared.types.TypeTree.{TypeTree}

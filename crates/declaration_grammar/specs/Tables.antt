@@ -1,9 +1,9 @@
 -- What tokens begin a declaration.
 use Rattle.std.specs.Prelude.{Option, Some, None}
-use Rattle.slang_tree.specs.declared.places.Access.{Access}
-use Rattle.slang_tree.specs.declared.places.Access.TheVariants as a
-use Rattle.slang_tree.specs.declared.places.Mode.{Mode}
-use Rattle.slang_tree.specs.declared.places.Mode.TheVariants as mode
+use Rattle.slang_names.specs.declared.places.Access.{Access}
+use Rattle.slang_names.specs.declared.places.Access.TheVariants as a
+use Rattle.slang_names.specs.declared.places.Mode.{Mode}
+use Rattle.slang_names.specs.declared.places.Mode.TheVariants as mode
 use Rattle.slang_tokens.specs.declared.tokens.Kind.{Kind}
 use Rattle.slang_tokens.specs.declared.tokens.Kind.TheVariants as k
 use Rattle.slang_tokens.specs.declared.tokens.Word.{Word}

@@ -5,6 +5,3 @@
 mod tables;
 
 pub use tables::{DeclarationUse, access_of, declaration_use, mode_of};
-
-#[cfg(test)]
-mod tests;

@@ -3,8 +3,8 @@
 ghost use Rattle.std.specs.Prelude.{◌≡◌};
 ghost use Rattle.declaration_grammar.specs.Tables as tables;
 
+use slang_names::{Access, Mode};
 use slang_tokens::{Kind, Word};
-use slang_tree::{Access, Mode};
 
 /// What a token begins where a declaration stands.
 #[derive(Clone, Copy, PartialEq, Eq, Debug)]

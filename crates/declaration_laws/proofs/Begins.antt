@@ -1,7 +1,7 @@
 -- What tokens begin declarations.
 use Rattle.std.proofs.Common.{Bool, true, false, ◌≡◌, ℕ, ◌||◌, ◌⊎◌, inl, inr, List, [], drop, Option, Some, None, refl, sym, ◌∙◌, ap}
-use Rattle.slang_tree.specs.declared.places.Place.{Place}
-use Rattle.slang_tree.specs.declared.places.Access.{Access}
+use Rattle.slang_names.specs.declared.places.Place.{Place}
+use Rattle.slang_names.specs.declared.places.Access.{Access}
 use Rattle.slang_tree.specs.declared.types.Builtin.{Builtin}
 use Rattle.slang_tree.specs.declared.types.Resource.{Resource}
 use Rattle.slang_tree.specs.declared.types.TypeTree.{TypeTree}

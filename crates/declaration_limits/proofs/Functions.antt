@@ -1,6 +1,6 @@
 -- Functions, aliases and fields: the first limit or rule on attributes that is broken is told.
 use Rattle.std.proofs.Common.{◌≤◌, arith, Bool, true, false, ◌≡◌, ℕ, zero, suc, ◌+◌, List, [], ◌∷◌, ◌++◌, drop, length, Option, Some, refl}
-use Rattle.slang_tree.specs.declared.places.Place.{Place}
+use Rattle.slang_names.specs.declared.places.Place.{Place}
 use Rattle.slang_tree.specs.declared.types.Identifier.{Identifier}
 use Rattle.slang_tree.specs.declared.types.Term.{Term}
 use Rattle.slang_tree.specs.declared.types.TypeTree.{TypeTree}

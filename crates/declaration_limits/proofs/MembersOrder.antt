@@ -1,8 +1,8 @@
 -- Of what members and structs in structs break the first goes first.
 use Rattle.std.proofs.Common.{Bool, ℕ, suc, ◌+◌, ◌<◌, List, [], ◌++◌, length, Option, arith}
 use Rattle.std.specs.Prelude.{nat_lt}
-use Rattle.slang_tree.specs.declared.places.Place.{Place}
-use Rattle.slang_tree.specs.declared.places.Access.{Access}
+use Rattle.slang_names.specs.declared.places.Place.{Place}
+use Rattle.slang_names.specs.declared.places.Access.{Access}
 use Rattle.slang_tree.specs.declared.types.Identifier.{Identifier}
 use Rattle.slang_tree.specs.declared.statements.Attribute.{Attribute}
 use Rattle.slang_tree.specs.declared.declarations.GenericParameter.{GenericParameter}

@@ -1,10 +1,10 @@
 -- Parts of declarations: the first limit that is broken is told.
 use Rattle.std.proofs.Common.{◌≤◌, arith, true, false, ◌≡◌, ℕ, zero, suc, ◌+◌, List, [], ◌∷◌, ◌++◌, drop, length, Option, Some, None, refl, ◌∙◌, ap}
 use Rattle.std.specs.Prelude.{nat_lt}
-use Rattle.slang_tree.specs.declared.places.Place.{Place}
-use Rattle.slang_tree.specs.declared.places.Mode.{Mode}
-use Rattle.slang_tree.specs.declared.places.Mode.TheVariants as mode
-use Rattle.slang_tree.specs.declared.codes.ModuleCode.TheVariants as code
+use Rattle.slang_names.specs.declared.places.Place.{Place}
+use Rattle.slang_names.specs.declared.places.Mode.{Mode}
+use Rattle.slang_names.specs.declared.places.Mode.TheVariants as mode
+use Rattle.slang_names.specs.declared.codes.ModuleCode.TheVariants as code
 use Rattle.slang_tree.specs.declared.types.Identifier.{Identifier}
 use Rattle.slang_tree.specs.declared.types.TypeTree.{TypeTree}
 use Rattle.slang_tree.specs.declared.statements.DeclaredName.{DeclaredName}

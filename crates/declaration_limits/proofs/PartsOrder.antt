@@ -1,8 +1,8 @@
 -- Of what a part of a declaration breaks the first goes first.
 use Rattle.std.proofs.Common.{ℕ, suc, ◌+◌, ◌<◌, List, ◌++◌, length, Option, arith}
 use Rattle.std.specs.Prelude.{nat_le, nat_lt}
-use Rattle.slang_tree.specs.declared.places.Place.{Place}
-use Rattle.slang_tree.specs.declared.places.Mode.{Mode}
+use Rattle.slang_names.specs.declared.places.Place.{Place}
+use Rattle.slang_names.specs.declared.places.Mode.{Mode}
 use Rattle.slang_tree.specs.declared.types.Identifier.{Identifier}
 use Rattle.slang_tree.specs.declared.types.TypeTree.{TypeTree}
 use Rattle.slang_tree.specs.declared.declarations.GenericParameter.{GenericParameter}

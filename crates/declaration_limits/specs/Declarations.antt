@@ -1,7 +1,7 @@
 -- The limits and rules on attributes that a declaration or a file breaks, in the order of the tokens at which that is
 -- known, where at most d nodes may stand on a path. Fields, imports and items make lists of any length.
 use Rattle.std.specs.Prelude.{ℕ, ◌+◌, Bool, List, [], ◌++◌, length, Option}
-use Rattle.slang_tree.specs.declared.places.Place.{Place}
+use Rattle.slang_names.specs.declared.places.Place.{Place}
 use Rattle.slang_tree.specs.declared.types.Identifier.{Identifier}
 use Rattle.slang_tree.specs.declared.types.TypeTree.{TypeTree}
 use Rattle.slang_tree.specs.declared.statements.DeclaredName.{DeclaredName}

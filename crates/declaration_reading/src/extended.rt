@@ -7,9 +7,10 @@ ghost use Rattle.slang_tokens.specs.declared.tokens.Mark.TheVariants as m;
 ghost use Rattle.declaration_grammar.specs.DeclarationsDescent as spec;
 ghost use Rattle.type_reading.specs.Limited.{limits_of};
 
+use slang_names::ModuleCode;
 use slang_reading::{Fault, Tokens};
 use slang_tokens::{Kind, Mark};
-use slang_tree::{Identifier, ModuleCode};
+use slang_tree::Identifier;
 use sqlite_items::Items;
 use std::alloc::Global;
 use type_reading::{Limits, expect, name};

@@ -9,9 +9,10 @@ use crate::extended::extended;
 use ahead_reading::Scans;
 use member_reading::inner_members;
 use part_reading::{closed, constraints, generics, heads};
+use slang_names::Place;
 use slang_reading::{Fault, Tokens, span};
 use slang_tokens::Mark;
-use slang_tree::{Extension, Place};
+use slang_tree::Extension;
 use std::alloc::Global;
 use type_reading::{Limits, expect, name};
 

@@ -8,9 +8,10 @@ ghost use Rattle.type_reading.specs.Limited.{limits_of};
 
 use crate::requirements::{begins_requirement, requirement};
 use part_reading::closed;
+use slang_names::{ModuleCode, Place};
 use slang_reading::{Fault, Tokens, span};
 use slang_tokens::Mark;
-use slang_tree::{Interface, ModuleCode, Place, Requirement};
+use slang_tree::{Interface, Requirement};
 use sqlite_items::Items;
 use std::alloc::Global;
 use type_reading::{Limits, expect, name};

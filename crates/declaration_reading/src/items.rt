@@ -22,11 +22,10 @@ use member_reading::{
     begins_parameters, function_rest, struct_rest, type_alias, type_def, type_name,
 };
 use part_reading::expect_word;
+use slang_names::{ModuleCode, Place};
 use slang_reading::{Fault, Tokens, is_mark, span};
 use slang_tokens::{Mark, Token, Word};
-use slang_tree::{
-    Constant, Global as GlobalTree, Identifier, ItemNode, ModuleCode, Place, TypeTree,
-};
+use slang_tree::{Constant, Global as GlobalTree, Identifier, ItemNode, TypeTree};
 use statement_grammar::{KnownAttribute, Target};
 use std::alloc::Global;
 use type_reading::{Limits, expect};

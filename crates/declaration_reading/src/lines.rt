@@ -9,9 +9,10 @@ ghost use Rattle.declaration_grammar.specs.DeclarationsDescent as spec;
 ghost use Rattle.type_reading.specs.Limited.{limits_of};
 
 use part_reading::expect_word;
+use slang_names::{ModuleCode, Place};
 use slang_reading::{Fault, Tokens, is_word, span};
 use slang_tokens::{Mark, Word};
-use slang_tree::{ModuleCode, ModuleLine, Place};
+use slang_tree::ModuleLine;
 use sqlite_items::Items;
 use std::alloc::Global;
 use type_reading::{Limits, expect, name};

@@ -12,11 +12,10 @@ use attribute_reading::{attributes, misfit};
 use declaration_grammar::{DeclarationUse, declaration_use};
 use member_reading::type_name;
 use part_reading::parameters;
+use slang_names::{ModuleCode, Place};
 use slang_reading::{Fault, Tokens, is_mark, span};
 use slang_tokens::Mark;
-use slang_tree::{
-    Attribute, Identifier, ModuleCode, Place, Requirement, RequirementNode, TypeTree,
-};
+use slang_tree::{Attribute, Identifier, Requirement, RequirementNode, TypeTree};
 use sqlite_items::Items;
 use statement_grammar::Target;
 use std::alloc::Global;

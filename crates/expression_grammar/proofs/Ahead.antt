@@ -1,7 +1,7 @@
 -- What is looked at ahead passes no limit: a cast's word and parenthesis, a shift's two marks, and generic arguments where
 -- there are as many turns as tokens.
 use Rattle.std.proofs.Common.{Bool, true, false, ◌≡◌, ℕ, ◌+◌, ◌<◌, ◌≤◌, List, drop, length, Option, Some, None, refl, ap, subst, eqb-true, ◌&&◌, if◌then◌else◌, arith}
-use Rattle.slang_tree.specs.declared.places.Place.{Place}
+use Rattle.slang_names.specs.declared.places.Place.{Place}
 use Rattle.slang_tree.specs.declared.types.Builtin.{Builtin}
 use Rattle.slang_tokens.specs.declared.tokens.Kind.{Kind}
 use Rattle.slang_tokens.specs.declared.tokens.Kind.TheVariants as k

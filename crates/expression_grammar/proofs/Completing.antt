@@ -1,7 +1,7 @@
 -- Completions through the parts of the descent into expressions: turns that something must follow, loops whose turn tells
 -- whether it was one, two marks that stand together, and an answer that does not depend on what has been looked at.
 use Rattle.std.proofs.Common.{Bool, true, false, ◌≡◌, ℕ, zero, suc, ◌<◌, List, [], ◌∷◌, drop, Option, Some, None, sym, ◌∙◌, ap, add-zero, arith}
-use Rattle.slang_tree.specs.declared.codes.ModuleCode.TheVariants as code
+use Rattle.slang_names.specs.declared.codes.ModuleCode.TheVariants as code
 use Rattle.slang_reading.specs.Lexed.{Lexed}
 use Rattle.slang_reading.specs.Reading.{Outcome, Done, Stop, Past, Parser, and_then, bind, ◌>>=◌, past, first, Choice, Leave, Pass, place_of, turn, turns}
 use Rattle.slang_reading.proofs.Tame.{answer_of, Tame, tame_pure, tame_past, tame_bind, tame_turns}

@@ -1,7 +1,7 @@
 -- What the parts of the descent into expressions answer: a part that is looked at ahead, and loops whose turn tells whether
 -- it was one.
 use Rattle.std.proofs.Common.{Bool, true, false, ◌≡◌, ℕ, zero, suc, List, Option, Some, None, refl, sym, subst}
-use Rattle.slang_tree.specs.declared.codes.ModuleCode.TheVariants as code
+use Rattle.slang_names.specs.declared.codes.ModuleCode.TheVariants as code
 use Rattle.slang_reading.specs.Lexed.{Lexed}
 use Rattle.slang_reading.specs.Reading.{Outcome, Done, Stop, Past, Parser, past, place_of, foreseen, foresee}
 use Rattle.slang_reading.proofs.Exact.{Post, post_bind, post_weaken, Meets, Reads, reads_pure, reads_bind}

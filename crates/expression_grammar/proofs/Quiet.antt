@@ -1,6 +1,6 @@
 -- Where an expression begins, and behind what it does not go on.
 use Rattle.std.proofs.Common.{Bool, true, false, ◌≡◌, ℕ, suc, ◌+◌, ◌≤◌, List, drop, Option, Some, None, refl, sym, ◌∙◌, ap, subst, arith, ◌||◌}
-use Rattle.slang_tree.specs.declared.places.Place.{Place}
+use Rattle.slang_names.specs.declared.places.Place.{Place}
 use Rattle.slang_tree.specs.declared.types.Builtin.{Builtin}
 use Rattle.slang_tree.specs.declared.expressions.BinaryOperator.{BinaryOperator}
 use Rattle.slang_tree.specs.declared.expressions.BinaryOperator.TheVariants as o

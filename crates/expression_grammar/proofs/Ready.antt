@@ -3,8 +3,8 @@ use Rattle.std.proofs.Common.{Bool, true, false, ◌≡◌, ℕ, zero, suc, ◌+
 use Rattle.std.specs.Prelude.{nat_lt}
 use Rattle.std.proofs.lemmas.Bool.Decides.{nat_tests}
 use Rattle.std.proofs.Math.Path.{fun_ext}
-use Rattle.slang_tree.specs.declared.places.Place.{Place}
-use Rattle.slang_tree.specs.declared.codes.ModuleCode.TheVariants as code
+use Rattle.slang_names.specs.declared.places.Place.{Place}
+use Rattle.slang_names.specs.declared.codes.ModuleCode.TheVariants as code
 use Rattle.slang_tree.specs.declared.types.Identifier.{Identifier}
 use Rattle.slang_tree.specs.declared.types.Builtin.{Builtin}
 use Rattle.slang_tree.specs.declared.expressions.UnaryOperator.{UnaryOperator}

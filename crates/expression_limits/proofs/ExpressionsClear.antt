@@ -1,8 +1,8 @@
 -- An expression breaks no limit exactly where it is within the limits.
 use Rattle.std.proofs.Common.{◌≡◌, ℕ, zero, suc, ◌+◌, ◌≤◌, ◌<◌, List, [], ◌∷◌, ◌++◌, length, length-append, Some, refl, sym, ◌∙◌, ap, arith, rules}
-use Rattle.slang_tree.specs.declared.places.Place.{Place}
-use Rattle.slang_tree.specs.declared.codes.ModuleCode.TheVariants as code
-use Rattle.slang_tree.specs.declared.numbers.Number.{Number}
+use Rattle.slang_names.specs.declared.places.Place.{Place}
+use Rattle.slang_names.specs.declared.codes.ModuleCode.TheVariants as code
+use Rattle.slang_names.specs.declared.numbers.Number.{Number}
 use Rattle.slang_tree.specs.declared.types.Identifier.{Identifier}
 use Rattle.slang_tree.specs.declared.types.GenericArgument.{GenericArgument}
 use Rattle.slang_tree.specs.declared.expressions.ExprTree.{ExprTree, the_lemmas}

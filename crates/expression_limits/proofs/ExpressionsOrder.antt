@@ -1,7 +1,7 @@
 -- Of the limits that an expression breaks the first goes first.
 use Rattle.std.proofs.Common.{ℕ, suc, ◌+◌, ◌<◌, ◌≤◌, List, ◌++◌, length, arith}
 use Rattle.std.specs.Prelude.{nat_le, nat_lt}
-use Rattle.slang_tree.specs.declared.places.Place.{Place}
+use Rattle.slang_names.specs.declared.places.Place.{Place}
 use Rattle.slang_tree.specs.declared.types.Identifier.{Identifier}
 use Rattle.slang_tree.specs.declared.types.GenericArgument.{GenericArgument}
 use Rattle.slang_tree.specs.declared.expressions.ExprTree.{ExprTree}

@@ -1,9 +1,9 @@
 -- A type breaks no limit exactly where it is within the limits.
 use Rattle.std.proofs.Common.{◌≡◌, ℕ, zero, suc, ◌+◌, ◌≤◌, ◌<◌, max, List, [], ◌∷◌, ◌++◌, map, length, length-append, refl, arith, rules}
 use Rattle.std.proofs.lemmas.List.{length-map}
-use Rattle.slang_tree.specs.declared.places.Place.{Place}
-use Rattle.slang_tree.specs.declared.codes.ModuleCode.TheVariants as code
-use Rattle.slang_tree.specs.declared.numbers.Number.{Number}
+use Rattle.slang_names.specs.declared.places.Place.{Place}
+use Rattle.slang_names.specs.declared.codes.ModuleCode.TheVariants as code
+use Rattle.slang_names.specs.declared.numbers.Number.{Number}
 use Rattle.slang_tree.specs.declared.types.Identifier.{Identifier}
 use Rattle.slang_tree.specs.declared.types.Builtin.{Builtin}
 use Rattle.slang_tree.specs.declared.types.Resource.{Resource}

@@ -1,7 +1,7 @@
 -- Of the limits that a type breaks the first goes first.
 use Rattle.std.proofs.Common.{ℕ, suc, ◌+◌, List, ◌++◌, length, arith}
 use Rattle.std.specs.Prelude.{nat_le, nat_lt}
-use Rattle.slang_tree.specs.declared.places.Place.{Place}
+use Rattle.slang_names.specs.declared.places.Place.{Place}
 use Rattle.slang_tree.specs.declared.types.Term.{Term}
 use Rattle.slang_tree.specs.declared.types.TypeTree.{TypeTree}
 use Rattle.slang_tree.specs.declared.types.GenericArgument.{GenericArgument}

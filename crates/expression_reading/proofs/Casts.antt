@@ -4,7 +4,7 @@ use Rattle.slang_tokens.specs.declared.tokens.Kind.{Kind}
 use Rattle.slang_tokens.specs.declared.tokens.Kind.TheVariants as k
 use Rattle.slang_tokens.specs.declared.tokens.Mark.TheVariants as m
 use Rattle.slang_tokens.specs.declared.tokens.Token.{Token}
-use Rattle.slang_tree.specs.declared.places.Place.{Place}
+use Rattle.slang_names.specs.declared.places.Place.{Place}
 use Rattle.slang_reading.specs.declared.faults.Fault.{Fault}
 use Rattle.slang_reading.specs.declared.faults.Fault.TheVariants as f
 use Rattle.slang_reading.specs.Lexed.{Lexed, token_of}

@@ -1,6 +1,6 @@
 -- Where an index or a choice fails behind its first value.
 use Rattle.std.proofs.Common.{ℕ, ◌+◌, max, Ok, Err}
-use Rattle.slang_tree.specs.declared.places.Place.{Place}
+use Rattle.slang_names.specs.declared.places.Place.{Place}
 use Rattle.slang_tree.specs.declared.expressions.ExprNode.TheVariants as n
 use Rattle.slang_tokens.specs.declared.tokens.Mark.TheVariants as m
 use Rattle.slang_reading.specs.declared.faults.Fault.{Fault}

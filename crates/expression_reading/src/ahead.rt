@@ -14,9 +14,10 @@ ghost use Rattle.expression_reading.specs.Leading.{Tries};
 use crate::starts::sees_joined;
 use ahead_reading::{Scans, scan_known};
 use slang_grammar::builtin_of;
+use slang_names::Place;
 use slang_reading::{Fault, Tokens, is_mark};
 use slang_tokens::{Kind, Mark};
-use slang_tree::{Builtin, Place};
+use slang_tree::Builtin;
 use std::alloc::{AllocError, Global};
 use type_reading::{Limits, arguments_are_scanned};
 

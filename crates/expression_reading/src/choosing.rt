@@ -13,9 +13,10 @@ ghost use Rattle.expression_reading.specs.Leading.{Leads, with_operator, by_mark
 use crate::ahead::shift_ahead;
 use crate::starts::sees_joined;
 use slang_grammar::{binary_of, level_of};
+use slang_names::{ModuleCode, Place};
 use slang_reading::{Fault, Tokens, is_mark};
 use slang_tokens::{Kind, Mark};
-use slang_tree::{BinaryOperator, ExprTree, ModuleCode, Place};
+use slang_tree::{BinaryOperator, ExprTree};
 use type_reading::Limits;
 
 /// `>` or `>=`, behind its first mark at that place.

@@ -11,9 +11,10 @@ use crate::operators::level;
 use crate::primaries::primary_and_rest;
 use crate::starts::{WHOLE, begins_expression};
 use ahead_reading::Scans;
+use slang_names::ModuleCode;
 use slang_reading::{Fault, Tokens, span};
 use slang_tokens::Mark;
-use slang_tree::{ExprTree, ModuleCode};
+use slang_tree::ExprTree;
 use std::alloc::Global;
 use type_reading::{Limits, expect};
 

@@ -4,8 +4,9 @@ ghost use Rattle.std.specs.Prelude.{◌≡◌, IfOk};
 ghost use Rattle.slang_tree.specs.declared.expressions.ExprNode.TheVariants as n;
 ghost use Rattle.slang_grammar.specs.Expressions.{valued};
 
+use slang_names::Place;
 use slang_tree::{
-    BinaryOperator, Builtin, ExprNode, ExprTree, GenericArgument, Identifier, Place, UnaryOperator,
+    BinaryOperator, Builtin, ExprNode, ExprTree, GenericArgument, Identifier, UnaryOperator,
 };
 use sqlite_items::{Boxed, Items};
 use std::alloc::{AllocError, Global};

@@ -14,9 +14,10 @@ use crate::nodes::{binary, converted, prefixed};
 use crate::primaries::{chain_rest, paren, primary_and_rest};
 use ahead_reading::Scans;
 use slang_grammar::unary_of;
+use slang_names::{ModuleCode, Place};
 use slang_reading::{Fault, Tokens, span};
 use slang_tokens::{Kind, Mark};
-use slang_tree::{BinaryOperator, Builtin, ExprTree, ModuleCode, Place, UnaryOperator};
+use slang_tree::{BinaryOperator, Builtin, ExprTree, UnaryOperator};
 use std::alloc::Global;
 use type_reading::Limits;
 

@@ -15,9 +15,10 @@ use crate::starts::WHOLE;
 use crate::values::values;
 use ahead_reading::Scans;
 use slang_grammar::builtin_of;
+use slang_names::{ModuleCode, Place};
 use slang_reading::{Fault, Tokens, span};
 use slang_tokens::{Kind, Mark, Word};
-use slang_tree::{Builtin, ExprNode, ExprTree, ModuleCode, Place};
+use slang_tree::{Builtin, ExprNode, ExprTree};
 use std::alloc::Global;
 use type_reading::{Limits, expect};
 

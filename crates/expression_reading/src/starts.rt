@@ -6,9 +6,9 @@ ghost use Rattle.slang_reading.specs.Reading.{first};
 ghost use Rattle.slang_grammar.specs.ExpressionsDescent as spec;
 
 use slang_grammar::{builtin_of, unary_of};
+use slang_names::Place;
 use slang_reading::{Tokens, is_mark};
 use slang_tokens::{Kind, Mark, Word};
-use slang_tree::Place;
 
 /// The level behind the loosest, which is that of whole expressions.
 pub const WHOLE: u8 = 11;

@@ -11,9 +11,10 @@ ghost use Rattle.ahead_reading.specs.Knowing.{Ready};
 
 use crate::starts::{WHOLE, begins_expression};
 use ahead_reading::Scans;
+use slang_names::{ModuleCode, Place};
 use slang_reading::{Fault, Tokens};
 use slang_tokens::Mark;
-use slang_tree::{ExprTree, ModuleCode, Place};
+use slang_tree::ExprTree;
 use sqlite_items::Items;
 use std::alloc::Global;
 use type_reading::{Limits, expect};

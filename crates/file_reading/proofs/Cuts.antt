@@ -1,16 +1,16 @@
 -- A text has one first refusal, and no more tokens than bytes.
 use Rattle.std.proofs.Common.{◌≡◌, ℕ, zero, suc, ◌+◌, ◌-◌, ◌<◌, ◌≤◌, List, length, take, drop, Err, Result, refl, sym, ◌∙◌, ap, subst, arith, length-drop, ◌⊎◌, inl, inr}
 use Rattle.std.proofs.lemmas.List.{length-map}
-use Rattle.slang_tree.specs.declared.places.Place.{Place}
-use Rattle.slang_tree.specs.declared.codes.ModuleCode.{ModuleCode}
+use Rattle.slang_names.specs.declared.places.Place.{Place}
+use Rattle.slang_names.specs.declared.codes.ModuleCode.{ModuleCode}
 use Rattle.slang_tokens.specs.declared.tokens.Token.{Token}
 use Rattle.slang_tokens.specs.declared.lexemes.Lexeme.{Lexeme}
 use Rattle.slang_tokens.specs.declared.lexemes.Lexeme.TheVariants as x
 use Rattle.slang_tokens.specs.Lexemes.{IsLongest, lexeme}
 use Rattle.slang_tokens.specs.Cutting as cut
 use Rattle.slang_tokens.specs.Cutting.{place, Cut, Tokens, Refuses}
-use Rattle.slang_tree.specs.declared.faults.ModuleFault.{ModuleFault}
-use Rattle.slang_tree.specs.declared.faults.ModuleFault.TheVariants as f
+use Rattle.slang_names.specs.declared.faults.ModuleFault.{ModuleFault}
+use Rattle.slang_names.specs.declared.faults.ModuleFault.TheVariants as f
 use Rattle.slang_reading.specs.Lexed.{lexed_all, lexed}
 use Rattle.file_reading.specs.Wholes as spec
 

@@ -4,6 +4,3 @@
 mod whole;
 
 pub use whole::read_file;
-
-#[cfg(test)]
-mod tests;

@@ -2,18 +2,19 @@
 
 ghost use Rattle.std.specs.Prelude.{◌≡◌, ◌<◌, ◌≤◌, ◌^◌, ℕ, List, length, drop, IfOk};
 ghost use Rattle.slang_reading.specs.Reading.{first};
-ghost use Rattle.slang_tree.specs.declared.places.Place.{Place};
-ghost use Rattle.slang_tree.specs.declared.codes.ModuleCode.{ModuleCode};
-ghost use Rattle.slang_tree.specs.declared.codes.ModuleCode.TheVariants as code;
+ghost use Rattle.slang_names.specs.declared.places.Place.{Place};
+ghost use Rattle.slang_names.specs.declared.codes.ModuleCode.{ModuleCode};
+ghost use Rattle.slang_names.specs.declared.codes.ModuleCode.TheVariants as code;
 ghost use Rattle.slang_tokens.specs.declared.tokens.Token.{Token};
 ghost use Rattle.slang_tokens.specs.Cutting as cutting;
 ghost use Rattle.furthest_reading.specs.Verdicts.{verdict};
 ghost use Rattle.file_reading.specs.Wholes as spec;
 
 use furthest_reading::{Verdict, judge};
+use slang_names::limits::TEXT_BYTES;
+use slang_names::{ModuleCode, ModuleFault, Place};
 use slang_tokens::{Token, lex};
-use slang_tree::limits::TEXT_BYTES;
-use slang_tree::{File, ModuleCode, ModuleFault, Place};
+use slang_tree::File;
 use std::alloc::Global;
 
 /// Where the token of that index lies, or the empty place at the end of a text of so many bytes.

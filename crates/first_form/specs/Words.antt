@@ -2,7 +2,7 @@
 use Rattle.std.specs.Prelude.{ℕ, Bool, false, List, [], ◌∷◌, ◌++◌, ◌&&◌, ◌||◌, ◌==◌, not, length, map, codes, nat_le}
 use Rattle.std.specs.List.{list_any, list_all, flat_map}
 use Rattle.std.specs.Str.{bytes_eq}
-use Rattle.slang_tree.specs.Letters.{is_name}
+use Rattle.slang_names.specs.Letters.{is_name}
 
 -- words that have a use in the language
 abbrev pub used_words : List (List ℕ)

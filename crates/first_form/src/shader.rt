@@ -1,6 +1,6 @@
 // What a file of the first form is.
 
-use slang_tree::Name;
+use slang_names::Name;
 use sqlite_items::Items;
 
 /// A shader: the buffer of words, the entry, the entry's one parameter (the number of the invocation), the size

@@ -5,8 +5,8 @@ ghost use Rattle.std.specs.List.{list_any};
 ghost use Rattle.std.specs.Str.{bytes_eq};
 ghost use Rattle.first_form.specs.Words as spec;
 
-use slang_tree::is_name;
-use slang_tree::limits::NAME_BYTES;
+use slang_names::is_name;
+use slang_names::limits::NAME_BYTES;
 
 /// Words that have a use in the language.
 const USED: [&str; 43] = [

@@ -13,7 +13,7 @@ use Rattle.first_form.specs.declared.shader.Statement.{Statement}
 use Rattle.first_form.specs.declared.shader.Sum.{Sum}
 use Rattle.first_form.specs.declared.shader.Item.{Item}
 use Rattle.first_form.specs.declared.shader.Item.TheVariants.{Number, X}
-use Rattle.slang_tree.specs.Letters.{is_word_byte, is_digit, is_name}
+use Rattle.slang_names.specs.Letters.{is_word_byte, is_digit, is_name}
 use Rattle.first_form.specs.Words.{is_free_name}
 use Rattle.first_form.specs.Shaders.{IsShader, IsGroup}
 use Rattle.first_image.specs.Templates.{ins, Tables, Code, component_code, item_code, more_code, sum_code, statement_code, statements_code}

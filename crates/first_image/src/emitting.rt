@@ -18,7 +18,7 @@ use crate::sections::{
 };
 use crate::spelling::image_is_spelled;
 use first_form::{GroupSize, Shader, Statement};
-use slang_tree::Name;
+use slang_names::Name;
 use spirv_words::{Image, Instruction, Op, string_words};
 use sqlite_items::Items;
 use std::alloc::{AllocError, Global};

@@ -1,9 +1,9 @@
 -- Parts of declarations: what is read is within the limits.
 use Rattle.std.proofs.Common.{Bool, true, false, ◌≡◌, ℕ, ◌+◌, ◌≤◌, ◌&&◌, max, List, [], ◌∷◌, ◌++◌, map, length, length-append, Option, Some, None, refl, arith, if◌then◌else◌}
 use Rattle.std.specs.List.{list_all}
-use Rattle.slang_tree.specs.declared.places.Place.{Place}
-use Rattle.slang_tree.specs.declared.places.Mode.{Mode}
-use Rattle.slang_tree.specs.declared.codes.ModuleCode.TheVariants as code
+use Rattle.slang_names.specs.declared.places.Place.{Place}
+use Rattle.slang_names.specs.declared.places.Mode.{Mode}
+use Rattle.slang_names.specs.declared.codes.ModuleCode.TheVariants as code
 use Rattle.slang_tree.specs.declared.types.Identifier.{Identifier}
 use Rattle.slang_tree.specs.declared.types.TypeTree.{TypeTree}
 use Rattle.slang_tree.specs.declared.declarations.GenericParameter.{GenericParameter}

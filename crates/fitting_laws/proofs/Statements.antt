@@ -1,8 +1,8 @@
 -- Statements and blocks: what is read is within the limits, and its attributes obey the rules.
 use Rattle.std.proofs.Common.{Bool, true, false, ◌≡◌, ℕ, zero, suc, ◌+◌, ◌≤◌, ◌||◌, max, List, [], ◌∷◌, ◌++◌, map, Option, Some, None, refl, ◌∙◌, rules}
 use Rattle.std.specs.List.{list_all}
-use Rattle.slang_tree.specs.declared.places.Place.{Place}
-use Rattle.slang_tree.specs.declared.codes.ModuleCode.TheVariants as code
+use Rattle.slang_names.specs.declared.places.Place.{Place}
+use Rattle.slang_names.specs.declared.codes.ModuleCode.TheVariants as code
 use Rattle.slang_tree.specs.declared.expressions.ExprTree.{ExprTree}
 use Rattle.slang_tree.specs.declared.statements.Attribute.{Attribute}
 use Rattle.slang_tree.specs.declared.statements.Local.{Local}

@@ -16,6 +16,3 @@ pub use words::{
     add, and, complement, mul, negate, or, sar, sdiv, shl, shr, sle, slt, srem, sub, udiv, umod,
     xor,
 };
-
-#[cfg(test)]
-mod tests;

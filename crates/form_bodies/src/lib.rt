@@ -3,8 +3,6 @@
 
 mod bodies;
 mod stats;
-#[cfg(test)]
-mod tests;
 mod writing;
 
 pub use bodies::{bodies_of, body_of, put_bodies, put_body};

@@ -11,7 +11,7 @@ ghost use Rattle.slang_core.specs.BodyTrees.{expr_tree, stat_tree};
 use form_exprs::{binary_of, bool_of, call_of, expr_at, place_at};
 use form_grammar::{Level, ReadFault, count_at, number_at, refused, short};
 use slang_core::{Conversions, Expr, Stat};
-use slang_tree::FormCode;
+use slang_names::FormCode;
 use sqlite_items::{Boxed, Items};
 
 /// The first value of a local, behind its tag.

@@ -18,7 +18,7 @@ use slang_core::{
     AliasDecl, ConstantDecl, Decl, ExtensionDecl, FunctionDecl, GlobalDecl, Interface,
     InterfaceDecl, Params, StructDecl,
 };
-use slang_tree::FormCode;
+use slang_names::FormCode;
 use std::alloc::AllocError;
 
 impl Stored for StructDecl {

@@ -8,7 +8,7 @@ ghost use Rattle.form_grammar.specs.Reading.{Gives, form_at, nested_at, items_at
 ghost use Rattle.slang_core.specs.TypeTrees.{option_of};
 
 use form_grammar::{Level, ReadFault, count_at, put_count, refused, short};
-use slang_tree::FormCode;
+use slang_names::FormCode;
 use sqlite_items::Items;
 use std::alloc::AllocError;
 

@@ -9,7 +9,7 @@ ghost use Rattle.slang_core.specs.DeclarationTrees.{access_tree, mode_tree, flag
 
 use form_grammar::{Level, ReadFault, refused, short};
 use slang_core::{BuiltIn, Flags};
-use slang_tree::{Access, FormCode, Mode};
+use slang_names::{Access, FormCode, Mode};
 
 /// Who may use a declaration at the front.
 #[tactic(auto, unfolding(form_grammar::specs::Reading::form_at, form_grammar::specs::Numbers::after))]

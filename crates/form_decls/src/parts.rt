@@ -22,7 +22,7 @@ use slang_core::{
     Assoc, Bind, Binding, BuiltIn, Conf, Constraint, Entry, Field, GenericParam, Par, Params, Req,
     TypeTerm,
 };
-use slang_tree::{FormCode, Name, Ref};
+use slang_names::{FormCode, Name, Ref};
 use std::alloc::AllocError;
 
 /// A type at the front, nested in what stands around it.

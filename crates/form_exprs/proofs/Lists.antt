@@ -1,6 +1,6 @@
 -- The trees of what holds a list of expressions, or of what parameters are given.
 use Rattle.std.proofs.Common.{◌≡◌, List, ◌∙◌, ap, rules}
-use Rattle.slang_tree.specs.declared.names.Ref.{Ref}
+use Rattle.slang_names.specs.declared.names.Ref.{Ref}
 use Rattle.slang_core.specs.declared.types.Arg.{Arg}
 use Rattle.slang_core.specs.declared.types.TypeTerm.{TypeTerm}
 use Rattle.slang_core.specs.declared.evidence.Evidence.{Evidence}

@@ -14,7 +14,7 @@ use crate::marks::{binary_of, bytes_of, unary_of};
 use form_grammar::{Level, ReadFault, count_at, number_at, refused, short};
 use form_types::{args_of, byte_of, evidence_of, evidences_of, name_of, ref_of, term_of};
 use slang_core::{Call, Expr, Given, PlaceTerm};
-use slang_tree::FormCode;
+use slang_names::FormCode;
 use sqlite_items::{Boxed, Items};
 
 /// An expression at the front, nested in what stands around it.

@@ -4,8 +4,6 @@
 mod exprs;
 mod leaves;
 mod marks;
-#[cfg(test)]
-mod tests;
 mod writing;
 
 pub use exprs::{call_of, expr_at, expr_of, place_at, place_of};

@@ -10,7 +10,7 @@ ghost use Rattle.slang_core.specs.BodyTrees.{unary_tree, binary_tree, bool_tree}
 use form_grammar::{Level, ReadFault, count_at, put_count, refused, short};
 use form_types::byte_of;
 use slang_core::{BinaryOp, UnaryOp};
-use slang_tree::FormCode;
+use slang_names::FormCode;
 use sqlite_items::Items;
 use std::alloc::AllocError;
 

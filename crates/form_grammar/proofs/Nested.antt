@@ -1,6 +1,6 @@
 -- A nested production, by how many more may stand in one another.
 use Rattle.std.proofs.Common.{◌≡◌, ℕ, zero, suc, ◌-◌, ◌<◌, List, [], ◌∷◌, length, refl, ap, arith}
-use Rattle.slang_tree.specs.declared.form_codes.FormCode.TheVariants.{FormLimit}
+use Rattle.slang_names.specs.declared.form_codes.FormCode.TheVariants.{FormLimit}
 use Rattle.form_grammar.specs.Grammar.{Class, grammar}
 use Rattle.form_grammar.specs.Numbers.{short, refused}
 use Rattle.form_grammar.specs.Reading.{form_at, nested_at}

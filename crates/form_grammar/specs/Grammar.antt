@@ -1,7 +1,7 @@
 -- The grammar of stored forms, as data.
 use Rattle.std.specs.Prelude.{ℕ, Option, Some, None, nat_eq, if◌then◌else◌}
-use Rattle.slang_tree.specs.declared.form_codes.FormCode.{FormCode}
-use Rattle.slang_tree.specs.declared.form_codes.FormCode.TheVariants.{BadMagic, BadVersion, NotCanonical}
+use Rattle.slang_names.specs.declared.form_codes.FormCode.{FormCode}
+use Rattle.slang_names.specs.declared.form_codes.FormCode.TheVariants.{BadMagic, BadVersion, NotCanonical}
 
 -- The productions that count as nested.
 pub data Class : Type 0 where

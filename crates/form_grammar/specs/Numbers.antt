@@ -1,7 +1,7 @@
 -- Reading a number: from left to right, up to the first byte with which no number goes on.
 use Rattle.std.specs.Prelude.{◌≡◌, ℕ, ◌+◌, ◌-◌, ◌*◌, ◌/◌, List, [], ◌∷◌, length, take, drop, Result, Ok, Err, nat_lt, nat_le, nat_eq, if◌then◌else◌, ◌⊎◌, ◌&&◌, not}
-use Rattle.slang_tree.specs.declared.form_codes.FormCode.{FormCode}
-use Rattle.slang_tree.specs.declared.form_codes.FormCode.TheVariants.{Short, NotCanonical, FormLimit}
+use Rattle.slang_names.specs.declared.form_codes.FormCode.{FormCode}
+use Rattle.slang_names.specs.declared.form_codes.FormCode.TheVariants.{Short, NotCanonical, FormLimit}
 use Rattle.form_grammar.specs.declared.codes.Stop.{Stop}
 
 -- what stands at the front, and the bytes behind it

@@ -1,7 +1,7 @@
 -- Reading a form: from left to right, with the first byte that is refused.
 use Rattle.std.specs.Prelude.{◌≡◌, ℕ, zero, suc, List, [], ◌∷◌, Result, Ok, Err, nat_le, nat_eq, ◌&&◌, if◌then◌else◌}
-use Rattle.slang_tree.specs.declared.form_codes.FormCode.{FormCode}
-use Rattle.slang_tree.specs.declared.form_codes.FormCode.TheVariants.{NotCanonical, FormLimit, Trailing}
+use Rattle.slang_names.specs.declared.form_codes.FormCode.{FormCode}
+use Rattle.slang_names.specs.declared.form_codes.FormCode.TheVariants.{NotCanonical, FormLimit, Trailing}
 use Rattle.form_grammar.specs.declared.codes.Stop.{Stop}
 use Rattle.form_grammar.specs.declared.codes.ReadFault.{ReadFault}
 use Rattle.form_grammar.specs.declared.codes.ReadFault.TheVariants as faults

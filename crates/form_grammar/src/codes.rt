@@ -2,7 +2,7 @@
 
 ghost use Rattle.std.specs.Prelude.{◌≡◌, length};
 
-use slang_tree::FormCode;
+use slang_names::FormCode;
 use std::alloc::{AllocError, Global};
 
 /// Where reading stopped, and why: so many bytes were left from the refused one on.

@@ -7,7 +7,7 @@ ghost use Rattle.form_grammar.specs.Numbers.{after};
 ghost use Rattle.form_grammar.specs.Reading.{Answers};
 
 use crate::Stop;
-use slang_tree::FormCode;
+use slang_names::FormCode;
 use std::alloc::AllocError;
 
 /// The greatest number.

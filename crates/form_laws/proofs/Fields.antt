@@ -3,7 +3,7 @@ use Rattle.std.proofs.Common.{◌≡◌, ℕ, zero, suc, ◌+◌, ◌-◌, ◌*�
 use Rattle.std.specs.Prelude.{nat_eq, nat_lt, nat_le}
 use Rattle.std.proofs.lemmas.Bool.{cases_lt, cases_eq, cases_Bool, lt-ltb, le-ltb, ne_eqb, eq-eqb}
 use Rattle.std.proofs.lemmas.List.{append-nil, length-append}
-use Rattle.slang_tree.specs.declared.form_codes.FormCode.TheVariants.{Short, NotCanonical}
+use Rattle.slang_names.specs.declared.form_codes.FormCode.TheVariants.{Short, NotCanonical}
 use Rattle.form_grammar.specs.declared.codes.Stop.{Stop}
 use Rattle.form_grammar.specs.Trees.{spelled_number}
 use Rattle.form_grammar.specs.Numbers.{digits_at, number_at, refused}

@@ -1,7 +1,7 @@
 -- What it means that a byte is the first after which no stored module goes on.
 use Rattle.std.specs.Prelude.{◌≡◌, ℕ, ◌<◌, ⊤, List, [], ◌∷◌, ◌++◌, length}
-use Rattle.slang_tree.specs.declared.form_codes.FormCode.{FormCode}
-use Rattle.slang_tree.specs.declared.form_codes.FormCode.TheVariants.{Short, BadMagic, BadVersion, NotCanonical, Trailing, NotTyped, FormLimit, WrongName}
+use Rattle.slang_names.specs.declared.form_codes.FormCode.{FormCode}
+use Rattle.slang_names.specs.declared.form_codes.FormCode.TheVariants.{Short, BadMagic, BadVersion, NotCanonical, Trailing, NotTyped, FormLimit, WrongName}
 use Rattle.form_grammar.specs.declared.codes.Stop.{Stop}
 use Rattle.form_laws.specs.Forms.{GoesOn, IsCut}
 

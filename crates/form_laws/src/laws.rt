@@ -9,7 +9,7 @@ ghost use Rattle.form_laws.specs.Forms.{IsForm, Fits};
 ghost use Rattle.form_laws.specs.Limits.{LimitAt};
 ghost use Rattle.form_laws.specs.Refusals.{IsBytes, StopsAt};
 
-use slang_tree::FormCode;
+use slang_names::FormCode;
 
 /// No stored module begins another, and each is of one tree.
 pub fn one_form()

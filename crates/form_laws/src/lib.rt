@@ -6,6 +6,3 @@ mod numbers;
 
 pub use laws::{first_refusal, limit_refusal, one_form, read_is_spelled, spelled_is_read};
 pub use numbers::num_at;
-
-#[cfg(test)]
-mod tests;

@@ -5,7 +5,7 @@ ghost use Rattle.form_grammar.specs.Trees.{spelled_number};
 ghost use Rattle.form_laws.specs.Fields.{NumAt};
 
 use form_grammar::{FieldFault, number_at};
-use slang_tree::FormCode;
+use slang_names::FormCode;
 
 /// The number that is spelled from a place on, at most 4294967295 and in its shortest spelling, and the place
 /// behind it.

@@ -1,7 +1,7 @@
 -- Where a module passes a limit first, reading stops.
 use Rattle.std.proofs.Common.{◌≡◌, ℕ, zero, suc, ◌+◌, ◌<◌, ◌≤◌, ◌^◌, ◌⊎◌, inl, inr, List, [], ◌∷◌, ◌++◌, length, Ok, Err, refl, sym, ap, ◌∙◌, append_assoc, arith}
 use Rattle.std.proofs.lemmas.Bool.{lt-ltb, le-ltb}
-use Rattle.slang_tree.specs.declared.form_codes.FormCode.TheVariants.{FormLimit}
+use Rattle.slang_names.specs.declared.form_codes.FormCode.TheVariants.{FormLimit}
 use Rattle.form_grammar.specs.declared.codes.Stop.{Stop}
 use Rattle.form_grammar.specs.Trees.{Tree, nothing, byte, number, text, ◌▸◌, tagged, nested, many, end, ◌⨾◌, size, spelling, spelled_number}
 use Rattle.form_grammar.specs.Grammar.{Form, ◌▹◌, list, part, grammar, module_form}

@@ -2,8 +2,8 @@
 use Rattle.std.proofs.Common.{◌≡◌, ℕ, suc, ◌+◌, ◌<◌, ◌≤◌, ◌⊎◌, inl, inr, List, [], ◌∷◌, ◌++◌, length, take, drop, Result, Ok, Err, refl, sym, ap, subst, ◌∙◌, append_assoc, arith}
 use Rattle.std.proofs.lemmas.Bool.{cases_lt}
 use Rattle.std.proofs.lemmas.List.{append-nil, length-append, take-append-drop, length-take-le}
-use Rattle.slang_tree.specs.declared.form_codes.FormCode.{FormCode}
-use Rattle.slang_tree.specs.declared.form_codes.FormCode.TheVariants.{Short, BadMagic, BadVersion, NotCanonical, Trailing, NotTyped, FormLimit, WrongName}
+use Rattle.slang_names.specs.declared.form_codes.FormCode.{FormCode}
+use Rattle.slang_names.specs.declared.form_codes.FormCode.TheVariants.{Short, BadMagic, BadVersion, NotCanonical, Trailing, NotTyped, FormLimit, WrongName}
 use Rattle.form_grammar.specs.declared.codes.Stop.{Stop}
 use Rattle.form_grammar.specs.Trees.{Tree, ◌▸◌, spelling}
 use Rattle.form_grammar.specs.Grammar.{Form, module_form, exactly, ◌▹◌}

@@ -1,7 +1,7 @@
 -- Where bytes are refused as a stored module, and by which code.
 use Rattle.std.specs.Prelude.{◌≡◌, ℕ, ◌+◌, ◌<◌, ◌≤◌, ◌⊎◌, List, [], ◌∷◌, ◌++◌, length}
-use Rattle.slang_tree.specs.declared.form_codes.FormCode.{FormCode}
-use Rattle.slang_tree.specs.declared.form_codes.FormCode.TheVariants.{Short, BadMagic, BadVersion, NotCanonical, Trailing, NotTyped, FormLimit, WrongName}
+use Rattle.slang_names.specs.declared.form_codes.FormCode.{FormCode}
+use Rattle.slang_names.specs.declared.form_codes.FormCode.TheVariants.{Short, BadMagic, BadVersion, NotCanonical, Trailing, NotTyped, FormLimit, WrongName}
 use Rattle.form_grammar.specs.declared.codes.Stop.{Stop}
 use Rattle.form_grammar.specs.Trees.{Tree, spelling}
 use Rattle.form_grammar.specs.Grammar.{module_form}

@@ -1,7 +1,7 @@
 // Laws.
 
 ghost use Rattle.std.specs.Prelude.{◌≡◌, ◌+◌, ◌<◌, ◌≤◌, ◌⊎◌, ◌∷◌, List, ℕ, length, Ok, Err};
-ghost use Rattle.slang_tree.specs.declared.form_codes.FormCode as codes;
+ghost use Rattle.slang_names.specs.declared.form_codes.FormCode as codes;
 ghost use Rattle.form_grammar.specs.declared.codes.Stop.{Stop};
 ghost use Rattle.form_grammar.specs.Trees.{Tree, spelling};
 ghost use Rattle.form_grammar.specs.Grammar.{module_form};
@@ -10,7 +10,7 @@ ghost use Rattle.form_laws.specs.Limits.{LimitAt};
 ghost use Rattle.form_laws.specs.Refusals.{IsBytes};
 ghost use Rattle.form_refusals.specs.Refused.{RefusedAt, Spells, most_bytes};
 
-use slang_tree::FormCode;
+use slang_names::FormCode;
 
 /// Where a module passes a limit first, reading stops by that limit.
 pub fn limit_is_refused()

@@ -1,6 +1,6 @@
 -- What is counted of an expression is at most the bytes of the tokens that spell it.
 use Rattle.std.proofs.Common.{ℕ, ◌+◌, ◌≤◌, List, arith}
-use Rattle.slang_tree.specs.declared.places.Place.{Place}
+use Rattle.slang_names.specs.declared.places.Place.{Place}
 use Rattle.slang_tree.specs.declared.types.Identifier.{Identifier}
 use Rattle.slang_tree.specs.declared.types.GenericArgument.{GenericArgument}
 use Rattle.slang_tree.specs.declared.expressions.BinaryOperator.{BinaryOperator}

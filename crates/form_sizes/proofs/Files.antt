@@ -2,7 +2,7 @@
 use Rattle.std.proofs.Common.{Bool, ℕ, ◌+◌, ◌≤◌, List, [], ◌∷◌, Option, arith}
 use Rattle.std.specs.List.{sum_by}
 use Rattle.std.proofs.lemmas.List.Sums.{sum_by-cons, sum_by-append}
-use Rattle.slang_tree.specs.declared.places.Place.{Place}
+use Rattle.slang_names.specs.declared.places.Place.{Place}
 use Rattle.slang_tree.specs.declared.types.TypeTree.{TypeTree}
 use Rattle.slang_tree.specs.declared.declarations.Function.{Function}
 use Rattle.slang_tree.specs.declared.declarations.Constraint.{Constraint}

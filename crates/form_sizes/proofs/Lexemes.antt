@@ -1,10 +1,10 @@
 -- How many bytes a lexeme has at least: a uint has a suffix or begins with `0x`.
 use Rattle.std.proofs.Common.{◌≡◌, ℕ, zero, suc, ◌+◌, ◌<◌, ◌≤◌, Bool, true, false, List, [], ◌∷◌, take, length, Option, Some, None, if◌then◌else◌, refl, sym, ◌∙◌, ap, arith}
 use Rattle.std.specs.Prelude.{nat_le, ◌==◌}
-use Rattle.slang_tree.specs.declared.codes.ModuleCode.{ModuleCode}
-use Rattle.slang_tree.specs.declared.codes.ModuleCode.TheVariants as c
-use Rattle.slang_tree.specs.declared.numbers.NumberKind.{NumberKind}
-use Rattle.slang_tree.specs.declared.numbers.NumberKind.TheVariants as sign
+use Rattle.slang_names.specs.declared.codes.ModuleCode.{ModuleCode}
+use Rattle.slang_names.specs.declared.codes.ModuleCode.TheVariants as c
+use Rattle.slang_names.specs.declared.numbers.NumberKind.{NumberKind}
+use Rattle.slang_names.specs.declared.numbers.NumberKind.TheVariants as sign
 use Rattle.slang_tokens.specs.declared.bytes.Radix.TheVariants as radix
 use Rattle.slang_tokens.specs.declared.bytes.Set.TheVariants as set
 use Rattle.slang_tokens.specs.declared.tokens.Mark.{Mark}

@@ -4,9 +4,9 @@ use Rattle.std.specs.Str.{bytes_eq}
 use Rattle.std.specs.Prelude.{codes}
 use Rattle.std.proofs.lemmas.Bool.{and_parts}
 use Rattle.std.proofs.lemmas.List.Sums.{sum_by-cons, sum_by-append}
-use Rattle.slang_tree.specs.declared.places.Place.{Place}
-use Rattle.slang_tree.specs.declared.numbers.NumberKind.{NumberKind}
-use Rattle.slang_tree.specs.declared.numbers.NumberKind.TheVariants as kind
+use Rattle.slang_names.specs.declared.places.Place.{Place}
+use Rattle.slang_names.specs.declared.numbers.NumberKind.{NumberKind}
+use Rattle.slang_names.specs.declared.numbers.NumberKind.TheVariants as kind
 use Rattle.slang_tree.specs.declared.expressions.BinaryOperator.TheVariants as o
 use Rattle.slang_tree.specs.declared.expressions.ExprNode.{ExprNode, out-ExprNode}
 use Rattle.slang_tree.specs.declared.expressions.ExprNode.TheOpen.{ExprNode-F}

@@ -1,7 +1,7 @@
 -- How many bytes an expression takes at least, as far as numbers, names, members, indices and operators go.
 use Rattle.std.proofs.Common.{◌≡◌, ℕ, ◌+◌, List, rules}
-use Rattle.slang_tree.specs.declared.places.Place.{Place}
-use Rattle.slang_tree.specs.declared.numbers.Number.{Number}
+use Rattle.slang_names.specs.declared.places.Place.{Place}
+use Rattle.slang_names.specs.declared.numbers.Number.{Number}
 use Rattle.slang_tree.specs.declared.types.Identifier.{Identifier}
 use Rattle.slang_tree.specs.declared.types.Builtin.{Builtin}
 use Rattle.slang_tree.specs.declared.types.GenericArgument.{GenericArgument}

@@ -1,6 +1,6 @@
 -- The tree of a conformance.
 use Rattle.std.proofs.Common.{◌≡◌, List, map, ◌∙◌, ap, rules}
-use Rattle.slang_tree.specs.declared.names.Ref.{Ref}
+use Rattle.slang_names.specs.declared.names.Ref.{Ref}
 use Rattle.slang_core.specs.declared.types.Arg.{Arg}
 use Rattle.slang_core.specs.declared.evidence.Evidence.{Evidence, the_lemmas}
 use Rattle.slang_core.specs.declared.evidence.Evidence.TheVariants as evidence

@@ -13,7 +13,7 @@ use crate::leaves::{name_of, ref_of};
 use crate::types::args_of;
 use form_grammar::{Level, ReadFault, count_at, number_at, refused, short};
 use slang_core::Evidence;
-use slang_tree::FormCode;
+use slang_names::FormCode;
 use sqlite_items::{Boxed, Items};
 
 #[cycle(evidence)]

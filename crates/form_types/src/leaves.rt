@@ -9,7 +9,7 @@ ghost use Rattle.slang_core.specs.TypeTrees.{ref_tree, value_tree, scalar_tree};
 
 use form_grammar::{Level, ReadFault, number_at, refused, short, text_at};
 use slang_core::Scalar;
-use slang_tree::{FormCode, Name, Ref, Value};
+use slang_names::{FormCode, Name, Ref, Value};
 
 /// A name at the front.
 #[tactic(auto, unfolding(form_grammar::specs::Reading::form_at, form_grammar::specs::Numbers::after))]

@@ -11,7 +11,7 @@ ghost use Rattle.slang_core.specs.TypeTrees.{ref_tree, value_tree, scalar_tree, 
 use crate::leaves::{byte_of, name_of, ref_of, scalar_of, value_of};
 use form_grammar::{Level, ReadFault, count_at, number_at, refused, short};
 use slang_core::{Arg, TypeTerm};
-use slang_tree::FormCode;
+use slang_names::FormCode;
 use sqlite_items::{Boxed, Items};
 
 #[tactic(auto, unfolding(form_grammar::specs::Reading::form_at, form_grammar::specs::Numbers::after))]

@@ -6,7 +6,7 @@ ghost use Rattle.slang_core.specs.TypeTrees.{ref_tree, value_tree, scalar_tree, 
 
 use form_grammar::{put_count, put_num, put_text};
 use slang_core::{Arg, Scalar, TypeTerm};
-use slang_tree::{Name, Ref, Value};
+use slang_names::{Name, Ref, Value};
 use std::alloc::AllocError;
 
 /// Appends a name.

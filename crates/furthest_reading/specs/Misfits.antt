@@ -1,8 +1,8 @@
 -- Attributes that do not fit, where a limit is passed before the kind of the thing behind them is known. The type and the name
 -- that are declared don't tell the kind, so it is that of the same tokens with `int` for the type and another name.
 use Rattle.std.specs.Prelude.{ℕ, zero, suc, ◌+◌, ◌-◌, min, Bool, true, false, not, ◌&&◌, ◌||◌, ◌==◌, nat_le, if◌then◌else◌, List, [], ◌∷◌, ◌++◌, take, drop, length, Option, Some, None}
-use Rattle.slang_tree.specs.declared.places.Place.{Place}
-use Rattle.slang_tree.specs.declared.codes.ModuleCode.{ModuleCode}
+use Rattle.slang_names.specs.declared.places.Place.{Place}
+use Rattle.slang_names.specs.declared.codes.ModuleCode.{ModuleCode}
 use Rattle.slang_tokens.specs.declared.tokens.Kind.{Kind}
 use Rattle.slang_tokens.specs.declared.tokens.Kind.TheVariants as k
 use Rattle.slang_tokens.specs.declared.tokens.Mark.TheVariants as m

@@ -1,7 +1,7 @@
 -- What the descent makes of a list of tokens, with the index of the last that it looked at.
 use Rattle.std.specs.Prelude.{ℕ, ◌-◌, false, List, length, nat_le, nat_lt, if◌then◌else◌, Option, Some, None}
-use Rattle.slang_tree.specs.declared.places.Place.{Place}
-use Rattle.slang_tree.specs.declared.codes.ModuleCode.{ModuleCode}
+use Rattle.slang_names.specs.declared.places.Place.{Place}
+use Rattle.slang_names.specs.declared.codes.ModuleCode.{ModuleCode}
 use Rattle.slang_tree.specs.declared.file.File.{File}
 use Rattle.slang_tokens.specs.declared.tokens.Token.{Token}
 use Rattle.slang_reading.specs.Lexed.{lexed_all}

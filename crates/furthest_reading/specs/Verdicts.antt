@@ -2,9 +2,9 @@
 -- reaches furthest: at a `<` behind a name generic arguments or an operator may go on, and where no file goes on with the
 -- tokens that follow, one of the two comes further. Where both come equally far, the operator counts.
 use Rattle.std.specs.Prelude.{ℕ, zero, suc, ◌+◌, Bool, true, false, not, ◌||◌, ◌==◌, nat_le, nat_lt, if◌then◌else◌, List, drop, length, Option, Some, None}
-use Rattle.slang_tree.specs.declared.places.Place.{Place}
-use Rattle.slang_tree.specs.declared.codes.ModuleCode.{ModuleCode}
-use Rattle.slang_tree.specs.declared.codes.ModuleCode.TheVariants as code
+use Rattle.slang_names.specs.declared.places.Place.{Place}
+use Rattle.slang_names.specs.declared.codes.ModuleCode.{ModuleCode}
+use Rattle.slang_names.specs.declared.codes.ModuleCode.TheVariants as code
 use Rattle.slang_tokens.specs.declared.tokens.Token.{Token}
 use Rattle.slang_reading.specs.Reading.{first}
 use Rattle.type_reading.specs.Limited.{language}

@@ -10,9 +10,9 @@ use crate::ahead::{ahead, is_less, token_at};
 use crate::fronts::{Ahead, Front, advanced, begun, reaches};
 use ahead_reading::Scans;
 use slang_grammar::resource_of;
+use slang_names::Place;
 use slang_reading::is_mark;
 use slang_tokens::{Kind, Mark, Token};
-use slang_tree::Place;
 use sqlite_items::Items;
 use std::alloc::{AllocError, Global};
 

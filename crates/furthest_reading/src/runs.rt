@@ -8,10 +8,11 @@ ghost use Rattle.furthest_reading.specs.Runs as spec;
 
 use ahead_reading::Scans;
 use declaration_reading::files;
+use slang_names::limits::{LIST_ITEMS, NAME_BYTES, NESTING};
+use slang_names::{ModuleCode, Place};
 use slang_reading::{Fault, Tokens};
 use slang_tokens::Token;
-use slang_tree::limits::{LIST_ITEMS, NAME_BYTES, NESTING};
-use slang_tree::{File, ModuleCode, Place};
+use slang_tree::File;
 use std::alloc::{AllocError, Global};
 use type_reading::Limits;
 

@@ -6,7 +6,5 @@ mod checking;
 mod edges;
 mod ranks;
 mod reach;
-#[cfg(test)]
-mod tests;
 
 pub use checking::first_call_fault;

@@ -5,8 +5,6 @@
 mod cursor;
 mod laws;
 mod roles;
-#[cfg(test)]
-mod tests;
 
 pub use cursor::Cursor;
 pub use laws::{places_grow, the_first_wrong_instruction_is_the_first_fault};

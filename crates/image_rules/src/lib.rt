@@ -6,8 +6,6 @@ mod blocks;
 mod ids;
 mod order;
 mod table;
-#[cfg(test)]
-mod tests;
 
 pub use blocks::first_block_fault;
 pub use ids::first_id_fault;

@@ -6,8 +6,6 @@ mod faults;
 mod functions;
 mod parts;
 mod rules;
-#[cfg(test)]
-mod tests;
 
 pub use faults::first_type_fault;
 pub use functions::Context;

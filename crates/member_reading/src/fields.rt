@@ -8,9 +8,10 @@ ghost use Rattle.declaration_grammar.specs.DeclarationsDescent as spec;
 ghost use Rattle.type_reading.specs.Limited.{limits_of};
 
 use attribute_reading::{declared_name, lengths};
+use slang_names::ModuleCode;
 use slang_reading::{Fault, Tokens, span};
 use slang_tokens::Mark;
-use slang_tree::{DeclaredName, Field, Identifier, ModuleCode, TypeTree};
+use slang_tree::{DeclaredName, Field, Identifier, TypeTree};
 use sqlite_items::Items;
 use std::alloc::Global;
 use type_reading::{Limits, expect};

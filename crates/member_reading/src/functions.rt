@@ -7,9 +7,10 @@ ghost use Rattle.ahead_reading.specs.Knowing.{Ready};
 
 use ahead_reading::Scans;
 use part_reading::{constraints, generics, parameters};
+use slang_names::Place;
 use slang_reading::{Fault, Tokens, span};
 use slang_tokens::Mark;
-use slang_tree::{Alias, Function, Identifier, Place, TypeTree};
+use slang_tree::{Alias, Function, Identifier, TypeTree};
 use statement_reading::blocks;
 use std::alloc::Global;
 use type_reading::{Limits, expect, name, types};

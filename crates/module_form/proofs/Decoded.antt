@@ -3,8 +3,8 @@ use Rattle.std.proofs.Common.{◌≡◌, ℕ, ◌+◌, ◌<◌, ◌≤◌, ◌�
 use Rattle.std.specs.Prelude.{IfOk}
 use Rattle.std.specs.declared.alloc.AllocError.{AllocError}
 use Rattle.std.proofs.lemmas.List.{append-nil, length-append}
-use Rattle.slang_tree.specs.declared.form_codes.FormCode.{FormCode}
-use Rattle.slang_tree.specs.declared.form_codes.FormCode.TheVariants.{FormLimit, Trailing}
+use Rattle.slang_names.specs.declared.form_codes.FormCode.{FormCode}
+use Rattle.slang_names.specs.declared.form_codes.FormCode.TheVariants.{FormLimit, Trailing}
 use Rattle.slang_core.specs.declared.declarations.CoreModule.{CoreModule}
 use Rattle.slang_core.specs.ModuleTrees.{module_tree}
 use Rattle.form_grammar.specs.declared.codes.Stop.{Stop}

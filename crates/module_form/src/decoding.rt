@@ -2,7 +2,7 @@
 
 ghost use Rattle.std.specs.Prelude.{◌≡◌, ◌⊎◌, ℕ, IfOk, Ok, Err};
 ghost use Rattle.slang_core.specs.declared.declarations.CoreModule as cores;
-ghost use Rattle.slang_tree.specs.declared.form_codes.FormCode as codes;
+ghost use Rattle.slang_names.specs.declared.form_codes.FormCode as codes;
 ghost use Rattle.form_refusals.specs.Refused.{RefusedAt};
 ghost use Rattle.module_form.specs.Stored.{StoredForm, FitsLimits, IsMemory};
 
@@ -10,7 +10,7 @@ use crate::FormFault;
 use crate::parts::module_at;
 use form_grammar::{Level, ReadFault};
 use slang_core::CoreModule;
-use slang_tree::FormCode;
+use slang_names::FormCode;
 use std::alloc::Global;
 
 /// How many productions may stand in one another.

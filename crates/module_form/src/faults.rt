@@ -1,6 +1,6 @@
 // Why bytes are not decoded.
 
-use slang_tree::FormCode;
+use slang_names::FormCode;
 use std::alloc::AllocError;
 use thiserror::Error;
 

@@ -5,7 +5,7 @@ ghost use Rattle.slang_core.specs.declared.declarations.CoreModule as cores;
 ghost use Rattle.slang_core.specs.ModuleTrees.{module_tree};
 ghost use Rattle.form_grammar.specs.Grammar.{module_form};
 ghost use Rattle.form_laws.specs.Forms.{IsForm};
-ghost use Rattle.slang_tree.specs.declared.form_codes.FormCode as codes;
+ghost use Rattle.slang_names.specs.declared.form_codes.FormCode as codes;
 ghost use Rattle.module_form.specs.Stored.{StoredForm, FitsLimits};
 
 use crate::{FormFault, decode, encode};

@@ -6,8 +6,6 @@ mod encoding;
 mod faults;
 mod laws;
 mod parts;
-#[cfg(test)]
-mod tests;
 
 pub use decoding::decode;
 pub use encoding::encode;
@@ -15,4 +13,4 @@ pub use faults::FormFault;
 pub use form_grammar::{FieldFault, put_num};
 pub use form_laws::num_at;
 pub use laws::{bytes_again, core_again, no_beginning, one_core, one_spelling};
-pub use slang_tree::FormCode;
+pub use slang_names::FormCode;

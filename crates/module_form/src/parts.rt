@@ -14,7 +14,7 @@ use form_bodies::bodies_of;
 use form_decls::{Stored, list_at};
 use form_grammar::{Level, ReadFault, refused, short};
 use slang_core::{CoreModule, Interface};
-use slang_tree::FormCode;
+use slang_names::FormCode;
 
 /// That byte at the front, and what stands behind it.
 #[tactic(auto, unfolding(form_grammar::specs::Reading::form_at, form_grammar::specs::Numbers::after))]

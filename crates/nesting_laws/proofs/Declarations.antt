@@ -1,8 +1,8 @@
 -- Functions, members and structs: no node of what is read is too deep, where as many fit as were given.
 use Rattle.std.proofs.Common.{Bool, true, false, ◌≡◌, ℕ, ◌+◌, List, [], ◌∷◌, map, length, Option, Some, None, if◌then◌else◌}
-use Rattle.slang_tree.specs.declared.places.Place.{Place}
-use Rattle.slang_tree.specs.declared.places.Mode.{Mode}
-use Rattle.slang_tree.specs.declared.codes.ModuleCode.TheVariants as code
+use Rattle.slang_names.specs.declared.places.Place.{Place}
+use Rattle.slang_names.specs.declared.places.Mode.{Mode}
+use Rattle.slang_names.specs.declared.codes.ModuleCode.TheVariants as code
 use Rattle.slang_tree.specs.declared.types.TypeTree.{TypeTree}
 use Rattle.slang_tree.specs.declared.statements.Block.{Block}
 use Rattle.slang_tree.specs.declared.declarations.Parameter.{Parameter}

@@ -1,7 +1,7 @@
 -- Interfaces, extensions and files: no node of what is read is too deep, where as many fit as were given.
 use Rattle.std.proofs.Common.{Bool, true, false, ◌≡◌, ℕ, ◌+◌, List, [], ◌∷◌, map, length, Option, refl}
-use Rattle.slang_tree.specs.declared.places.Place.{Place}
-use Rattle.slang_tree.specs.declared.codes.ModuleCode.TheVariants as code
+use Rattle.slang_names.specs.declared.places.Place.{Place}
+use Rattle.slang_names.specs.declared.codes.ModuleCode.TheVariants as code
 use Rattle.slang_tree.specs.declared.statements.Attribute.{Attribute}
 use Rattle.slang_tree.specs.declared.declarations.Parameter.{Parameter}
 use Rattle.slang_tree.specs.declared.declarations.Function.{Function}

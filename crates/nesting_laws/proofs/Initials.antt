@@ -1,6 +1,6 @@
 -- What the fold over what locals begin with is at each of its nodes.
 use Rattle.std.proofs.Common.{◌≡◌, List, map, rules}
-use Rattle.slang_tree.specs.declared.places.Place.{Place}
+use Rattle.slang_names.specs.declared.places.Place.{Place}
 use Rattle.slang_tree.specs.declared.expressions.ExprTree.{ExprTree}
 use Rattle.slang_tree.specs.declared.statements.Initializer.{Initializer}
 use Rattle.slang_tree.specs.declared.statements.Initializer.TheVariants as i

@@ -1,6 +1,6 @@
 -- Types, expressions and operands: no node of what is read is too deep, where as many fit as were given.
 use Rattle.std.proofs.Common.{Bool, true, false, ◌≡◌, ℕ, zero, suc, ◌≤◌, ◌++◌, List, [], ◌∷◌, map, Option, Some, None, refl, arith, if◌then◌else◌}
-use Rattle.slang_tree.specs.declared.codes.ModuleCode.TheVariants as code
+use Rattle.slang_names.specs.declared.codes.ModuleCode.TheVariants as code
 use Rattle.slang_tree.specs.declared.types.TypeTree.{TypeTree}
 use Rattle.slang_tree.specs.declared.expressions.ExprTree.{ExprTree}
 use Rattle.slang_tree.specs.Nesting.{Deep, before, first_of, deep_type, deep_expr}

@@ -1,7 +1,7 @@
 -- Statements and blocks: no node of what is read is too deep, where as many fit as were given.
 use Rattle.std.proofs.Common.{Bool, true, false, ◌≡◌, ℕ, zero, suc, ◌+◌, ◌≤◌, List, [], map, Option, Some, None, refl, sym, subst, arith}
-use Rattle.slang_tree.specs.declared.places.Place.{Place}
-use Rattle.slang_tree.specs.declared.codes.ModuleCode.TheVariants as code
+use Rattle.slang_names.specs.declared.places.Place.{Place}
+use Rattle.slang_names.specs.declared.codes.ModuleCode.TheVariants as code
 use Rattle.slang_tree.specs.declared.expressions.ExprTree.{ExprTree}
 use Rattle.slang_tree.specs.declared.statements.Attribute.{Attribute}
 use Rattle.slang_tree.specs.declared.statements.StatTree.{StatTree}

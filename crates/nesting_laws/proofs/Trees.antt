@@ -1,6 +1,6 @@
 -- What the fold over the trees of statements is at each of their nodes.
 use Rattle.std.proofs.Common.{◌≡◌, List, map, Option, rules}
-use Rattle.slang_tree.specs.declared.places.Place.{Place}
+use Rattle.slang_names.specs.declared.places.Place.{Place}
 use Rattle.slang_tree.specs.declared.expressions.ExprTree.{ExprTree}
 use Rattle.slang_tree.specs.declared.statements.Attribute.{Attribute}
 use Rattle.slang_tree.specs.declared.statements.Local.{Local}

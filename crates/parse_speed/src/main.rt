@@ -4,8 +4,8 @@
 
 mod texts;
 
+use slang_names::ModuleFault;
 use slang_parse::parse;
-use slang_tree::ModuleFault;
 use std::alloc::Global;
 use std::time::Instant;
 use std::{env, io};

@@ -10,9 +10,10 @@ ghost use Rattle.declaration_grammar.specs.PartsDescent as spec;
 ghost use Rattle.type_reading.specs.Limited.{limits_of};
 
 use crate::marks::expect_word;
+use slang_names::{ModuleCode, Place};
 use slang_reading::{Fault, Tokens, span};
 use slang_tokens::{Mark, Word};
-use slang_tree::{Constraint, Identifier, ModuleCode, Place};
+use slang_tree::{Constraint, Identifier};
 use sqlite_items::Items;
 use std::alloc::Global;
 use type_reading::{Limits, expect, name};

@@ -9,9 +9,10 @@ ghost use Rattle.type_reading.specs.Limited.{limits_of};
 
 use attribute_reading::declared_name;
 use declaration_grammar::{DeclarationUse, declaration_use, mode_of};
+use slang_names::{Mode, ModuleCode, Place};
 use slang_reading::{Fault, Tokens, span};
 use slang_tokens::{Kind, Mark};
-use slang_tree::{Identifier, Mode, ModuleCode, Parameter, Place, TypeTree};
+use slang_tree::{Identifier, Parameter, TypeTree};
 use sqlite_items::Items;
 use std::alloc::Global;
 use type_reading::{Limits, expect, name, types};

@@ -10,6 +10,3 @@ pub use conforming::{constraints, heads};
 pub use function_parameters::parameters;
 pub use marks::{access, closed, expect_word};
 pub use type_parameters::generics;
-
-#[cfg(test)]
-mod tests;

@@ -4,9 +4,9 @@ ghost use Rattle.slang_reading.specs.Cursor.{Runs};
 ghost use Rattle.declaration_grammar.specs.PartsDescent as spec;
 
 use declaration_grammar::access_of;
+use slang_names::{Access, Place};
 use slang_reading::{Fault, Tokens, is_word};
 use slang_tokens::{Kind, Mark, Word};
-use slang_tree::{Access, Place};
 use type_reading::expect;
 
 /// That word, and where it lies.

@@ -8,9 +8,10 @@ ghost use Rattle.declaration_grammar.specs.PartsDescent as spec;
 ghost use Rattle.type_reading.specs.Limited.{limits_of};
 
 use crate::marks::expect_word;
+use slang_names::{ModuleCode, Place};
 use slang_reading::{Fault, Tokens, is_word, span};
 use slang_tokens::{Kind, Mark, Word};
-use slang_tree::{GenericParameter, GenericParameterNode, Identifier, ModuleCode, Place};
+use slang_tree::{GenericParameter, GenericParameterNode, Identifier};
 use sqlite_items::Items;
 use std::alloc::Global;
 use type_reading::{Limits, expect, name};

@@ -12,6 +12,3 @@ pub use chains::step_all;
 pub use ranges::{clear, copy, gather, is_inside, is_read_first, one, put, put_both};
 pub use steps::step;
 pub use turns::{Followed, Turn};
-
-#[cfg(test)]
-mod tests;

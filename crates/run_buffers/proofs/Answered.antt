@@ -1,6 +1,6 @@
 -- What is answered to a text, and to bytes that are none.
 use Rattle.std.proofs.Common.{◌≡◌, ℕ, List, Result, Ok, Err, IfOk, ap}
-use Rattle.slang_tree.specs.declared.faults.RunCause.TheVariants.{NoEntry, BufferText, DispatchLimit, BufferMissing}
+use Rattle.slang_names.specs.declared.faults.RunCause.TheVariants.{NoEntry, BufferText, DispatchLimit, BufferMissing}
 use Rattle.run_buffers.specs.declared.buffer.Buffer.{Buffer}
 use Rattle.run_buffers.specs.declared.faults.RunFault.{RunFault}
 use Rattle.run_buffers.specs.declared.faults.RunFault.TheVariants.{Refused, Undefined, Budget, Memory}

@@ -1,6 +1,6 @@
 -- What an answer says that may be a refusal of a text.
 use Rattle.std.specs.Prelude.{ℕ, Result, Ok, Err}
-use Rattle.slang_tree.specs.declared.faults.RunCause.TheVariants.{NoEntry, BufferText, DispatchLimit, BufferMissing}
+use Rattle.slang_names.specs.declared.faults.RunCause.TheVariants.{NoEntry, BufferText, DispatchLimit, BufferMissing}
 use Rattle.run_buffers.specs.declared.faults.RunFault.{RunFault}
 use Rattle.run_buffers.specs.declared.faults.RunFault.TheVariants.{Refused, Undefined, Budget, Memory}
 

@@ -1,7 +1,7 @@
 // The buffers of a run, which contracts see as a list by set and binding.
 
 ghost use Rattle.std.specs.Prelude.{◌≡◌, ◌↔◌, ℕ, List, [], length, take, slice_get, IsTrue, IfOk, Ok, Err, Some, IsSome, IfSome, MatchOption};
-ghost use Rattle.slang_tree.specs.declared.faults.RunCause.TheVariants.{BufferText};
+ghost use Rattle.slang_names.specs.declared.faults.RunCause.TheVariants.{BufferText};
 ghost use Rattle.run_buffers.specs.declared.buffer.Buffer.{Buffer};
 ghost use Rattle.run_buffers.specs.declared.faults.RunFault.TheVariants.{Refused};
 ghost use Rattle.run_buffers.specs.Texts.{text_of, Fits, IsTextOf, RefusedAt};
@@ -14,8 +14,8 @@ use crate::faults::RunFault;
 use crate::lines::Stop;
 use crate::reading::text;
 use crate::writing::write_text;
-use slang_tree::RunCause;
-use slang_tree::limits::BUFFERS_BYTES;
+use slang_names::RunCause;
+use slang_names::limits::BUFFERS_BYTES;
 use std::alloc::{AllocError, Global};
 use std::marker::Model;
 

@@ -1,6 +1,6 @@
 // Why a run did not come to its end.
 
-use slang_tree::RunCause;
+use slang_names::RunCause;
 use std::alloc::AllocError;
 
 /// Why a run did not come to its end: it was refused, an invocation did what is undefined at this step of its own, which

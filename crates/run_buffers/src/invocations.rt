@@ -1,13 +1,13 @@
 // How many invocations a run has, and the built-in values of each.
 
 ghost use Rattle.std.specs.Prelude.{◌≡◌, ◌+◌, ◌*◌, ◌<◌, ◌≤◌, ◌^◌, Ok, Err, slice_index};
-ghost use Rattle.slang_tree.specs.declared.faults.RunCause.TheVariants.{DispatchLimit};
+ghost use Rattle.slang_names.specs.declared.faults.RunCause.TheVariants.{DispatchLimit};
 ghost use Rattle.run_buffers.specs.Invocations as spec;
 ghost use Rattle.run_buffers.specs.Invocations.{volume, place};
 
 use crate::ids::Ids;
-use slang_tree::RunCause;
-use slang_tree::limits::INVOCATIONS;
+use slang_names::RunCause;
+use slang_names::limits::INVOCATIONS;
 
 fn wide_volume(size: [u32; 3]) -> u128
     ensures volume { result ≡ volume size }

@@ -22,6 +22,3 @@ pub use faults::RunFault;
 pub use ids::Ids;
 pub use invocations::{ids_of, invocation_count};
 pub use laws::{each_invocation_once, one_reading, one_refusal, write_changes_one_word};
-
-#[cfg(test)]
-mod tests;

@@ -10,7 +10,7 @@ ghost use Rattle.run_buffers.specs.Lines.{ahead_of, FitsIn, Breaks, IfStopped};
 use crate::buffer::Buffer;
 use crate::line_reading::line;
 use crate::lines::{Room, Stop};
-use slang_tree::limits::BUFFER_WORDS;
+use slang_names::limits::BUFFER_WORDS;
 use std::alloc::{AllocError, Global};
 
 /// What may come behind a buffer.

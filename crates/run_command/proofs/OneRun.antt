@@ -1,7 +1,7 @@
 -- A run comes to one thing at most.
 use Rattle.std.proofs.Common.{◌≡◌, ◌≢◌, ℕ, ◌<◌, ◌≤◌, ◌%◌, List, length, Option, Some, None, Result, Ok, Err, refl, sym, ap, ◌∙◌, subst, arith}
-use Rattle.slang_tree.specs.declared.faults.RunCause.{RunCause}
-use Rattle.slang_tree.specs.declared.faults.RunCause.TheVariants.{NoEntry, BufferText}
+use Rattle.slang_names.specs.declared.faults.RunCause.{RunCause}
+use Rattle.slang_names.specs.declared.faults.RunCause.TheVariants.{NoEntry, BufferText}
 use Rattle.slang_store.specs.Contents.{Contents}
 use Rattle.spirv_words.specs.declared.images.Image.{Image}
 use Rattle.spirv_words.specs.declared.faults.ImageCode.{ImageCode}

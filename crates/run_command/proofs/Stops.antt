@@ -1,6 +1,6 @@
 -- From a fault to what a run comes to.
 use Rattle.std.proofs.Common.{◌≡◌, ℕ, ◌≤◌, List, length, Option, Some, None, Result, Ok, Err, sym, subst}
-use Rattle.slang_tree.specs.declared.faults.RunCause.TheVariants.{NoEntry, BufferText, DispatchLimit, BufferMissing}
+use Rattle.slang_names.specs.declared.faults.RunCause.TheVariants.{NoEntry, BufferText, DispatchLimit, BufferMissing}
 use Rattle.spirv_words.specs.declared.images.Image.{Image}
 use Rattle.spirv_check.specs.Entry.{entry_name}
 use Rattle.slang_store.specs.Contents.{Contents}

@@ -1,7 +1,7 @@
 -- What a run comes to, over what the files hold.
 use Rattle.std.specs.Prelude.{◌≡◌, ◌≢◌, ℕ, List, Option, Some, None, Result, Ok, Err}
-use Rattle.slang_tree.specs.declared.faults.RunCause.{RunCause}
-use Rattle.slang_tree.specs.declared.faults.RunCause.TheVariants.{NoEntry, BufferText}
+use Rattle.slang_names.specs.declared.faults.RunCause.{RunCause}
+use Rattle.slang_names.specs.declared.faults.RunCause.TheVariants.{NoEntry, BufferText}
 use Rattle.slang_store.specs.Contents.{Contents}
 use Rattle.spirv_words.specs.declared.images.Image.{Image}
 use Rattle.spirv_words.specs.declared.faults.ImageCode.{ImageCode}

@@ -1,6 +1,6 @@
 // What a run comes to.
 
-use slang_tree::{Name, RunCause};
+use slang_names::{Name, RunCause};
 use spirv_words::ImageCode;
 
 /// What a run comes to, unless a read fails or memory is wanting.

@@ -12,8 +12,8 @@ use crate::answer::RunAnswer;
 use crate::reads::read_held;
 use crate::request::Run;
 use crate::running::over_files;
+use slang_names::Name;
 use slang_store::{FileFault, Files};
-use slang_tree::Name;
 use std::alloc::Global;
 
 /// That a file is not there.

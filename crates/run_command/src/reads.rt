@@ -8,8 +8,8 @@ ghost use Rattle.slang_store.specs.declared.files.FileFault.TheVariants.{Failed}
 ghost use Rattle.run_command.specs.Files.{file_limit};
 ghost use Rattle.run_command.specs.Views.{HeldWithin, IsRead};
 
+use slang_names::{Name, limits};
 use slang_store::{FileFault, Files, Found};
-use slang_tree::{Name, limits};
 use std::alloc::Global;
 
 /// What a file of a run holds: its bytes, or more than such a file may have.

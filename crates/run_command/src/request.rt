@@ -6,7 +6,7 @@ ghost use Rattle.run_command.specs.Requests as spec;
 ghost use Rattle.run_command.specs.Views.{optional_request, IsBounded};
 
 use command_words::{is_file_name, is_short_name, number_within};
-use slang_tree::limits;
+use slang_names::limits;
 
 /// What `run IMAGE ENTRY X Y Z STEPS BUFFERS OUT` asks for: to run an entry of an image over so many groups and the text
 /// of buffers, with so many steps for each invocation, and to put the text of the buffers afterwards.

@@ -15,7 +15,7 @@ use crate::images::image_of;
 use crate::reads::Held;
 use crate::request::Run;
 use run_buffers::{Buffers, RunFault};
-use slang_tree::{Name, RunCause, limits};
+use slang_names::{Name, RunCause, limits};
 use spirv_check::ValidImage;
 use spirv_run::{Ran, Runner, dispatch};
 use spirv_words::{ImageCode, ImageFault};

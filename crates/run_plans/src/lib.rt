@@ -12,8 +12,6 @@ mod members;
 mod parts;
 mod plan;
 mod steps;
-#[cfg(test)]
-mod tests;
 mod words;
 
 pub use base::Bound;

@@ -7,8 +7,6 @@ mod order;
 mod parts;
 mod places;
 mod tables;
-#[cfg(test)]
-mod tests;
 mod widths;
 mod words;
 

@@ -5,7 +5,7 @@
 mod image;
 
 use image::IMAGE;
-use slang_tree::Name;
+use slang_names::Name;
 use spirv_check::check_image;
 use spirv_run::{Buffers, RunFault, Runner, dispatch};
 use spirv_words::read;

@@ -1,6 +1,6 @@
 -- From what was read and made to the command's answer.
 use Rattle.std.proofs.Common.{◌≡◌, ℕ, ◌+◌, ◌<◌, List, length, replicate, Some, None, refl, sym, subst, arith}
-use Rattle.slang_tree.specs.declared.names.Ref.{Ref}
+use Rattle.slang_names.specs.declared.names.Ref.{Ref}
 use Rattle.slang_store.specs.declared.files.Found.{Found}
 use Rattle.slang_store.specs.declared.files.Found.TheVariants.{Bytes, Absent, TooLong}
 use Rattle.slang_store.specs.Contents.{Contents}

@@ -1,6 +1,6 @@
 -- From what was made to what `compile` answers.
 use Rattle.std.proofs.Common.{◌≡◌, ⊎_elim, ℕ, List, Some, sym, subst}
-use Rattle.slang_tree.specs.declared.names.Ref.{Ref}
+use Rattle.slang_names.specs.declared.names.Ref.{Ref}
 use Rattle.slang_store.specs.Contents.{Contents}
 use Rattle.first_form.specs.declared.shader.Shader.{Shader}
 use Rattle.slang_cli.specs.Texts.{FirstForm}

@@ -1,7 +1,7 @@
 -- From the command's answer to what the words that are put mean.
 use Rattle.std.proofs.Common.{◌≡◌, ⊎_elim, ℕ, ◌≤◌, List, length, Option, Some, None, refl, sym, ◌∙◌, subst}
 use Rattle.behavior.specs.Meanings.{Agree}
-use Rattle.slang_tree.specs.declared.names.Ref.{Ref}
+use Rattle.slang_names.specs.declared.names.Ref.{Ref}
 use Rattle.slang_store.specs.Contents.{Contents, with_entry}
 use Rattle.spirv_words.specs.Strings.{IsText}
 use Rattle.spirv_words.specs.Words.{CanBeSpelled, image_words}

@@ -2,8 +2,8 @@
 use Rattle.std.proofs.Common.{◌≡◌, ℕ, ◌<◌, ◌≤◌, Bool, true, false, ◌&&◌, ◌||◌, cond, nat_le, List, [], ◌∷◌, length, codes, IsTrue, Option, Some, None, refl, ap, subst, arith, leb-true, bytes_eq}
 use Rattle.std.proofs.lemmas.Bool.Decides.{nat_tests}
 use Rattle.std.specs.List.{list_all}
-use Rattle.slang_tree.specs.declared.names.Ref.{Ref}
-use Rattle.slang_tree.specs.Letters.{is_digit, is_word_byte, is_name}
+use Rattle.slang_names.specs.declared.names.Ref.{Ref}
+use Rattle.slang_names.specs.Letters.{is_digit, is_word_byte, is_name}
 use Rattle.spirv_words.specs.Strings.{IsText}
 use Rattle.command_words.specs.Words.{is_short_name, is_file_name}
 use Rattle.run_command.specs.Requests.{RunRequest, run_of}

@@ -1,6 +1,6 @@
 -- A command has at most one answer.
 use Rattle.std.proofs.Common.{◌≡◌, ℕ, List, Option, Some, None, refl, sym, ap, ◌∙◌, subst}
-use Rattle.slang_tree.specs.declared.names.Ref.{Ref}
+use Rattle.slang_names.specs.declared.names.Ref.{Ref}
 use Rattle.slang_store.specs.Contents.{Contents}
 use Rattle.first_form.specs.declared.shader.Shader.{Shader}
 use Rattle.slang_cli.specs.Texts.{FirstForm}
@@ -8,8 +8,8 @@ use Rattle.run_command.specs.Requests.{RunRequest}
 use Rattle.run_command.specs.Answers.{Came, Comes}
 use Rattle.slang_cli.specs.Commands.{Request, Compile, Run}
 use Rattle.slang_cli.specs.Answers.{Answer, Refuses, Compiles, absent, not_parsed, not_yet, no_entry, puts, IsAnswer, RunAnswers, answer_of, IsEntry, puts_image}
-use Rattle.slang_tree.specs.declared.places.Place.{Place}
-use Rattle.slang_tree.specs.declared.codes.ModuleCode.{ModuleCode}
+use Rattle.slang_names.specs.declared.places.Place.{Place}
+use Rattle.slang_names.specs.declared.codes.ModuleCode.{ModuleCode}
 use Rattle.slang_tree.specs.declared.file.File.{File}
 use Rattle.slang_parse.specs.Parsing.{Spells, IsRefused}
 use Rattle.tree_form.specs.Forms.{form_of}

@@ -1,11 +1,11 @@
 -- What the program answers, where memory and the outside hold.
 use Rattle.std.specs.Prelude.{◌≡◌, ◌⊎◌, ℕ, ◌<◌, ◌≤◌, ◌^◌, All, List, [], ◌∷◌, length, Some, None}
 use Rattle.std.specs.Fmt.{decimal}
-use Rattle.slang_tree.specs.declared.names.Ref.{Ref}
-use Rattle.slang_tree.specs.declared.places.Place.{Place}
-use Rattle.slang_tree.specs.declared.codes.ModuleCode.{ModuleCode}
-use Rattle.slang_tree.specs.declared.codes.ModuleCode.TheVariants.{NotYet}
-use Rattle.slang_tree.specs.declared.faults.LinkCause.TheVariants.{NoEntry}
+use Rattle.slang_names.specs.declared.names.Ref.{Ref}
+use Rattle.slang_names.specs.declared.places.Place.{Place}
+use Rattle.slang_names.specs.declared.codes.ModuleCode.{ModuleCode}
+use Rattle.slang_names.specs.declared.codes.ModuleCode.TheVariants.{NotYet}
+use Rattle.slang_names.specs.declared.faults.LinkCause.TheVariants.{NoEntry}
 use Rattle.slang_store.specs.Contents.{Contents, with_entry}
 use Rattle.spirv_words.specs.Words.{image_words}
 use Rattle.spirv_words.specs.Bytes.{bytes_of_words}

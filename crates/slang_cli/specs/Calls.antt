@@ -1,7 +1,7 @@
 -- What a call of the program leaves.
 use Rattle.std.specs.Prelude.{◌≡◌, ◌⊎◌, ℕ, List, [], Option, Some, None}
 use Rattle.behavior.specs.Meanings.{Agree}
-use Rattle.slang_tree.specs.declared.names.Ref.{Ref}
+use Rattle.slang_names.specs.declared.names.Ref.{Ref}
 use Rattle.slang_store.specs.Contents.{Contents, Partly}
 use Rattle.spirv_words.specs.Words.{Spells}
 use Rattle.spirv_words.specs.Bytes.{bytes_of_words}

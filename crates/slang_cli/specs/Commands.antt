@@ -1,7 +1,7 @@
 -- Which words after the program's name are a command.
 use Rattle.std.specs.Prelude.{ℕ, ◌+◌, ◌&&◌, ◌==◌, List, [], ◌∷◌, ◌++◌, take, drop, position, codes, Option, Some, None, if◌then◌else◌, bytes_eq}
 use Rattle.std.specs.Option.{option_map}
-use Rattle.slang_tree.specs.declared.names.Ref.{Ref}
+use Rattle.slang_names.specs.declared.names.Ref.{Ref}
 use Rattle.command_words.specs.Words.{is_short_name, is_file_name}
 use Rattle.run_command.specs.Requests.{RunRequest, run_of}
 

@@ -1,7 +1,7 @@
 // What a command comes to before anything is put or printed.
 
+use slang_names::Name;
 use slang_outcomes::Outcome;
-use slang_tree::Name;
 
 /// A command is refused, with its line; or it gives a file its bytes, and then prints a line.
 #[derive(Debug, Drop)]

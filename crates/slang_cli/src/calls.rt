@@ -21,9 +21,9 @@ use crate::command::{Command, Compile, parse};
 use crate::compile::{compile_found, text_file};
 use crate::runs::run_answer;
 use run_command::{Run, run};
+use slang_names::limits;
 use slang_outcomes::Outcome;
 use slang_store::{FileFault, Files, Found, Sink, write_all};
-use slang_tree::limits;
 use std::alloc::Global;
 
 /// Reads the text of a module.

@@ -10,8 +10,8 @@ ghost use Rattle.slang_cli.specs.Views as view;
 use crate::answer::Answer;
 use crate::compile::refuses;
 use run_command::{Run, RunAnswer};
+use slang_names::Name;
 use slang_outcomes::{Outcome, line, number};
-use slang_tree::Name;
 use std::alloc::{AllocError, Global};
 
 /// The line of a run that came to its end: how many invocations there were, and how many steps they took.

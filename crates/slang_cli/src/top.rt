@@ -1,7 +1,7 @@
 // The one call that does all that the program does, with all that may be relied on.
 
 ghost use Rattle.std.specs.Prelude.{◌≡◌, ◌≢◌, ◌⊎◌, ◌≤◌, ℕ, List, ◌++◌, Some, None, map, string_bytes};
-ghost use Rattle.slang_tree.specs.declared.names.Ref.{Ref};
+ghost use Rattle.slang_names.specs.declared.names.Ref.{Ref};
 ghost use Rattle.slang_store.specs.Contents.{Contents, IsPrefixOf};
 ghost use Rattle.slang_store.specs.Counts.{Rose};
 ghost use Rattle.slang_cli.specs.Commands.{Request, Compile, command_of, asked_of};

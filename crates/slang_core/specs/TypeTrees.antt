@@ -1,8 +1,8 @@
 -- What types spell, as trees.
 use Rattle.std.specs.Prelude.{ℕ, List, [], ◌∷◌, Option, Some, None, map}
-use Rattle.slang_tree.specs.declared.names.Ref.{Ref}
-use Rattle.slang_tree.specs.declared.places.Value.{Value}
-use Rattle.slang_tree.specs.declared.places.Value.TheVariants.{Number, Parameter}
+use Rattle.slang_names.specs.declared.names.Ref.{Ref}
+use Rattle.slang_names.specs.declared.places.Value.{Value}
+use Rattle.slang_names.specs.declared.places.Value.TheVariants.{Number, Parameter}
 use Rattle.slang_core.specs.declared.types.Scalar.{Scalar}
 use Rattle.slang_core.specs.declared.types.Scalar.TheVariants as scalar
 use Rattle.slang_core.specs.declared.types.TypeTerm.{TypeTerm, fold-TypeTerm}

@@ -1,7 +1,7 @@
 // Bodies of functions.
 
 use crate::{Arg, Evidence, TypeTerm};
-use slang_tree::{Name, Ref, Value};
+use slang_names::{Name, Ref, Value};
 use sqlite_items::{Boxed, Items};
 
 /// A body: the types of its locals, which are numbered after the parameters, and its statements.

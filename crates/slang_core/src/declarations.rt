@@ -1,7 +1,7 @@
 // Declarations: what other modules see.
 
 use crate::{Body, Evidence, Scalar, TypeTerm};
-use slang_tree::{Access, Mode, Name, Ref};
+use slang_names::{Access, Mode, Name, Ref};
 use sqlite_items::Items;
 
 /// A module: the interfaces that it reaches by imports, by ascending name; its own; and one body for each

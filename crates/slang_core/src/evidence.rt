@@ -1,7 +1,7 @@
 // Evidence that a type conforms to an interface.
 
 use crate::Arg;
-use slang_tree::{Name, Ref};
+use slang_names::{Name, Ref};
 use sqlite_items::{Boxed, Items};
 
 /// Why a type conforms to an interface.

@@ -1,6 +1,6 @@
 // Types.
 
-use slang_tree::{Name, Ref, Value};
+use slang_names::{Name, Ref, Value};
 use sqlite_items::{Boxed, Items};
 
 /// What a vector is made of.

@@ -1,7 +1,7 @@
 -- What all of the descent shares: what is read is spelled.
 use Rattle.std.proofs.Common.{length, Bool, true, false, ◌≡◌, ℕ, ◌+◌, List, drop, Option, Some, None, refl, ◌∙◌, ap, if◌then◌else◌, ◌≤◌, ◌⊎◌, inr}
-use Rattle.slang_tree.specs.declared.places.Place.{Place}
-use Rattle.slang_tree.specs.declared.codes.ModuleCode.TheVariants as code
+use Rattle.slang_names.specs.declared.places.Place.{Place}
+use Rattle.slang_names.specs.declared.codes.ModuleCode.TheVariants as code
 use Rattle.slang_tree.specs.declared.types.Identifier.{Identifier}
 use Rattle.slang_tree.specs.declared.types.Term.{Term}
 use Rattle.slang_tree.specs.declared.types.Term.TheVariants as term

@@ -1,7 +1,7 @@
 -- What of a type within the limits is within them too.
 use Rattle.std.proofs.Common.{◌≡◌, ℕ, suc, ◌<◌, ◌≤◌, max, List, [], ◌∷◌, ◌++◌, length, map, length-append, ◌∙◌, ap, arith, rules}
 use Rattle.std.proofs.lemmas.List.{length-map}
-use Rattle.slang_tree.specs.declared.places.Place.{Place}
+use Rattle.slang_names.specs.declared.places.Place.{Place}
 use Rattle.slang_tree.specs.declared.types.Identifier.{Identifier}
 use Rattle.slang_tree.specs.declared.types.Resource.{Resource}
 use Rattle.slang_tree.specs.declared.types.Term.{Term}

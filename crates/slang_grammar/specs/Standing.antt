@@ -1,6 +1,6 @@
 -- Which token lies at an index.
 use Rattle.std.specs.Prelude.{◌≡◌, ℕ, false, List, drop, Some}
-use Rattle.slang_tree.specs.declared.places.Place.{Place}
+use Rattle.slang_names.specs.declared.places.Place.{Place}
 use Rattle.slang_tree.specs.declared.types.Identifier.{Identifier}
 use Rattle.slang_tokens.specs.declared.tokens.Kind.{Kind}
 use Rattle.slang_tokens.specs.declared.tokens.Kind.TheVariants as k

@@ -7,6 +7,3 @@ mod tables;
 
 pub use laws::types_are_read;
 pub use tables::{binary_of, builtin_of, level_of, resource_of, unary_of};
-
-#[cfg(test)]
-mod tests;

@@ -2,15 +2,15 @@
 use Rattle.std.specs.Prelude.{ℕ, List, [], ◌∷◌, ◌++◌, codes}
 use Rattle.std.specs.Fmt.{decimal}
 use Rattle.std.specs.List.{flat_map}
-use Rattle.slang_tree.specs.declared.names.Ref.{Ref}
-use Rattle.slang_tree.specs.declared.faults.Counted.{Counted}
-use Rattle.slang_tree.specs.declared.faults.Counted.TheVariants.{Instances, Types, Words as WordsOf, Instruction}
-use Rattle.slang_tree.specs.declared.faults.LinkCause.{LinkCause}
-use Rattle.slang_tree.specs.declared.faults.LinkCause.TheVariants as link
-use Rattle.slang_tree.specs.declared.faults.RunCause.{RunCause}
-use Rattle.slang_tree.specs.declared.faults.RunCause.TheVariants as input
-use Rattle.slang_tree.specs.Codes.{code_number, code_name}
-use Rattle.slang_tree.specs.FormCodes.{form_number, form_name}
+use Rattle.slang_names.specs.declared.names.Ref.{Ref}
+use Rattle.slang_names.specs.declared.faults.Counted.{Counted}
+use Rattle.slang_names.specs.declared.faults.Counted.TheVariants.{Instances, Types, Words as WordsOf, Instruction}
+use Rattle.slang_names.specs.declared.faults.LinkCause.{LinkCause}
+use Rattle.slang_names.specs.declared.faults.LinkCause.TheVariants as link
+use Rattle.slang_names.specs.declared.faults.RunCause.{RunCause}
+use Rattle.slang_names.specs.declared.faults.RunCause.TheVariants as input
+use Rattle.slang_names.specs.Codes.{code_number, code_name}
+use Rattle.slang_names.specs.FormCodes.{form_number, form_name}
 use Rattle.spirv_words.specs.Codes.{code_number as image_number, code_name as image_name}
 use Rattle.slang_outcomes.specs.declared.outcome.Outcome.{Outcome}
 use Rattle.slang_outcomes.specs.declared.outcome.Outcome.TheVariants.{Done, ModuleRefused, LinkRefused, Words, ReadFault, WriteFault, Memory, Undefined, Budget, Absent, FormRefused, ImageRefused, InputRefused}

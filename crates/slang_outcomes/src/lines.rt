@@ -2,12 +2,12 @@
 
 ghost use Rattle.std.specs.Prelude.{◌≡◌, ◌∷◌, [], IfOk, map, string_bytes, codes};
 ghost use Rattle.std.specs.Fmt.{decimal};
-ghost use Rattle.slang_tree.specs.declared.faults.LinkCause.TheVariants as link;
+ghost use Rattle.slang_names.specs.declared.faults.LinkCause.TheVariants as link;
 ghost use Rattle.slang_outcomes.specs.declared.outcome.Outcome.TheVariants.{ModuleRefused, LinkRefused, FormRefused, ImageRefused, InputRefused};
 ghost use Rattle.slang_outcomes.specs.Lines as spec;
 
 use crate::Outcome;
-use slang_tree::{Counted, FormCode, LinkCause, ModuleCode, Name, Place, Ref, RunCause};
+use slang_names::{Counted, FormCode, LinkCause, ModuleCode, Name, Place, Ref, RunCause};
 use spirv_words::ImageCode;
 use std::alloc::{AllocError, Global};
 

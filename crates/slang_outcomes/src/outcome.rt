@@ -2,7 +2,7 @@
 
 ghost use Rattle.std.specs.Prelude.{◌≡◌};
 
-use slang_tree::{FormCode, LinkCause, ModuleCode, Name, Place, RunCause};
+use slang_names::{FormCode, LinkCause, ModuleCode, Name, Place, RunCause};
 use spirv_words::ImageCode;
 
 /// What a call of the program came to: one variant for each exit status. Beside `ReadFault`, `WriteFault` and `Memory`

@@ -1,8 +1,8 @@
 // Laws of texts, each the contract of a function that does nothing.
 
 ghost use Rattle.std.specs.Prelude.{◌≡◌, ◌⊎◌, ℕ, ◌-◌, ◌≤◌, ◌++◌, List, length, take, Some, None};
-ghost use Rattle.slang_tree.specs.declared.places.Place.{Place};
-ghost use Rattle.slang_tree.specs.declared.codes.ModuleCode.{ModuleCode};
+ghost use Rattle.slang_names.specs.declared.places.Place.{Place};
+ghost use Rattle.slang_names.specs.declared.codes.ModuleCode.{ModuleCode};
 ghost use Rattle.slang_tree.specs.declared.file.File.{File};
 ghost use Rattle.slang_tokens.specs.declared.tokens.Token.{Token};
 ghost use Rattle.slang_tokens.specs.Cutting.{Tokens};

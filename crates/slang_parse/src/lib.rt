@@ -9,6 +9,3 @@ pub use laws::{
     wrong_tokens_are_the_first,
 };
 pub use parsing::parse;
-
-#[cfg(test)]
-mod tests;

@@ -1,9 +1,9 @@
 // A whole text.
 
 ghost use Rattle.std.specs.Prelude.{◌≡◌, ◌≤◌, List, length, Some, None, Err, IfOk};
-ghost use Rattle.slang_tree.specs.declared.places.Place.{Place};
-ghost use Rattle.slang_tree.specs.declared.codes.ModuleCode.{ModuleCode};
-ghost use Rattle.slang_tree.specs.declared.faults.ModuleFault.TheVariants as fault;
+ghost use Rattle.slang_names.specs.declared.places.Place.{Place};
+ghost use Rattle.slang_names.specs.declared.codes.ModuleCode.{ModuleCode};
+ghost use Rattle.slang_names.specs.declared.faults.ModuleFault.TheVariants as fault;
 ghost use Rattle.slang_tree.specs.declared.file.File.{File};
 ghost use Rattle.slang_tree.specs.Nesting.{first_too_deep};
 ghost use Rattle.slang_tokens.specs.declared.tokens.Token.{Token};
@@ -20,7 +20,8 @@ ghost use Rattle.slang_parse.specs.Parsing.{Spells, IsRefused, text_limit};
 use crate::laws::{a_text_is_parsed_or_refused, the_first_break_is_told};
 use file_reading::read_file;
 use nesting_laws::what_is_read_is_nested;
-use slang_tree::{File, ModuleFault, Tree};
+use slang_names::ModuleFault;
+use slang_tree::{File, Tree};
 use std::alloc::Global;
 
 /// The tree of a file of which no node is too deep.

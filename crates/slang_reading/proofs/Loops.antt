@@ -1,7 +1,7 @@
 -- A loop of the code, beside the turns that it makes.
 use Rattle.std.proofs.Common.{Bool, true, false, ◌≡◌, ℕ, zero, suc, ◌+◌, ◌-◌, ◌<◌, max, drop, Option, Result, Ok, Err, sym, ◌∙◌, ap, arith}
-use Rattle.slang_tree.specs.declared.places.Place.{Place}
-use Rattle.slang_tree.specs.declared.codes.ModuleCode.TheVariants as code
+use Rattle.slang_names.specs.declared.places.Place.{Place}
+use Rattle.slang_names.specs.declared.codes.ModuleCode.TheVariants as code
 use Rattle.slang_reading.specs.declared.faults.Fault.{Fault}
 use Rattle.slang_reading.specs.declared.faults.Fault.TheVariants as f
 use Rattle.slang_reading.specs.Lexed.{Lexed}

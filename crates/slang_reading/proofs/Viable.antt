@@ -2,9 +2,9 @@
 -- where the first stops or passes a limit, the second reads a completion.
 use Rattle.std.proofs.Common.{Bool, true, false, ◌≡◌, ℕ, zero, suc, ◌+◌, ◌<◌, ◌≤◌, max, List, [], ◌∷◌, ◌++◌, length, drop, Option, Some, None, refl, sym, ◌∙◌, ap, subst, append_assoc, append-nil, add-zero, zero-add, length-append, arith, ◌⊎◌, inl, inr}
 use Rattle.std.proofs.Math.Seq.{drop-nil, drop-append_seam}
-use Rattle.slang_tree.specs.declared.places.Place.{Place}
-use Rattle.slang_tree.specs.declared.codes.ModuleCode.{ModuleCode}
-use Rattle.slang_tree.specs.declared.codes.ModuleCode.TheVariants as code
+use Rattle.slang_names.specs.declared.places.Place.{Place}
+use Rattle.slang_names.specs.declared.codes.ModuleCode.{ModuleCode}
+use Rattle.slang_names.specs.declared.codes.ModuleCode.TheVariants as code
 use Rattle.slang_reading.specs.Lexed.{Lexed}
 use Rattle.slang_reading.specs.Reading.{Outcome, Done, Stop, Past, Parser, and_then, bind, ◌>>=◌, pure, past, first, Choice, Leave, Take, Refuse, Pass, place_of, chosen, next, if_fits, tried, attempt, foreseen, foresee, turn, turns}
 use Rattle.slang_reading.proofs.Tame.{Same, same_less, seen_of, Rises, seen_rises, Tame, tame_pure, tame_past, tame_bind, Each, tame_next, each_fits, tame_attempt, tame_foresee, tame_turns}

@@ -1,6 +1,6 @@
 -- Tokens with the bytes that spell them.
 use Rattle.std.specs.Prelude.{ℕ, ◌-◌, List, take, drop, map}
-use Rattle.slang_tree.specs.declared.places.Place.{Place}
+use Rattle.slang_names.specs.declared.places.Place.{Place}
 use Rattle.slang_tokens.specs.declared.tokens.Kind.{Kind}
 use Rattle.slang_tokens.specs.declared.tokens.Token.{Token}
 

@@ -2,9 +2,9 @@
 -- tokens have been looked at so far. Where it stops, the last token that was looked at is the one that it refuses.
 -- The index is absolute and the list never changes, so that outcomes on two lists can be compared.
 use Rattle.std.specs.Prelude.{Bool, true, false, ℕ, zero, suc, ◌+◌, max, List, [], ◌∷◌, drop, Option, Some, None}
-use Rattle.slang_tree.specs.declared.places.Place.{Place}
-use Rattle.slang_tree.specs.declared.codes.ModuleCode.{ModuleCode}
-use Rattle.slang_tree.specs.declared.codes.ModuleCode.TheVariants as code
+use Rattle.slang_names.specs.declared.places.Place.{Place}
+use Rattle.slang_names.specs.declared.codes.ModuleCode.{ModuleCode}
+use Rattle.slang_names.specs.declared.codes.ModuleCode.TheVariants as code
 use Rattle.slang_reading.specs.Lexed.{Lexed}
 
 pub data Outcome (A : Type 0) : Type 0 where

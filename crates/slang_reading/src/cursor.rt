@@ -8,8 +8,8 @@ ghost use Rattle.slang_reading.specs.Kinds.{sees, sees_word};
 ghost use Rattle.slang_reading.specs.Cursor.{Cursor, looked, taken, moved};
 
 use crate::kinds::{is_mark, is_word};
+use slang_names::Place;
 use slang_tokens::{Mark, Token, Word};
-use slang_tree::Place;
 use std::marker::Model;
 
 /// The tokens of a text with their bytes, the next of them, and how many have been looked at.

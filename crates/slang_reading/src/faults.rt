@@ -1,6 +1,6 @@
 // Why a function of the descent answers nothing.
 
-use slang_tree::{ModuleCode, Place};
+use slang_names::{ModuleCode, Place};
 use std::alloc::AllocError;
 
 /// Why nothing is read.

@@ -3,8 +3,8 @@
 ghost use Rattle.std.specs.Prelude.{◌≡◌};
 ghost use Rattle.slang_reading.specs.Kinds as spec;
 
+use slang_names::Place;
 use slang_tokens::{Kind, Mark, Word};
-use slang_tree::Place;
 
 fn mark_code(mark: Mark) -> u8
     ensures { result ≡ spec.mark_code mark }

@@ -8,6 +8,3 @@ mod kinds;
 pub use cursor::Tokens;
 pub use faults::Fault;
 pub use kinds::{is_mark, is_word, span};
-
-#[cfg(test)]
-mod tests;

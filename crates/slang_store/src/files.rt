@@ -5,7 +5,7 @@ ghost use Rattle.slang_store.specs.Counts.{Rose};
 ghost use Rattle.slang_store.specs.Contents.{Contents, with_entry, Partly, IsLonger};
 ghost use Rattle.slang_store.specs.Answers.{IfBytes, OnAbsent, OnTooLong, OnFailed, OnMemory};
 
-use slang_tree::Name;
+use slang_names::Name;
 use std::alloc::{AllocError, Global};
 use thiserror::Error;
 

@@ -5,7 +5,7 @@ ghost use Rattle.std.specs.Io.KnownBytes.{Consumes, IsAtEnd};
 ghost use Rattle.slang_store.specs.Answers.{IfBytes, OnAbsent, OnTooLong};
 
 use crate::{Failed, FileFault, Files, Found};
-use slang_tree::Name;
+use slang_names::Name;
 use std::alloc::{AllocError, Global};
 use std::io::{Error, ErrorKind, Read};
 use std::marker::Model;

@@ -9,8 +9,6 @@ mod laws;
 mod memory_files;
 mod memory_sink;
 mod sink;
-#[cfg(test)]
-mod tests;
 
 pub use files::{FileFault, Files, Found};
 pub use host_folder::HostFolder;

@@ -1,7 +1,7 @@
 // Files that stand in memory.
 
 use crate::{FileFault, Files, Found};
-use slang_tree::Name;
+use slang_names::Name;
 use std::alloc::{AllocError, Global};
 use std::collections::BTreeMap;
 

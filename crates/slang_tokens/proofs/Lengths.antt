@@ -5,7 +5,7 @@ use Rattle.std.specs.List.{list_all}
 use Rattle.std.specs.Prelude.{nat_le}
 use Rattle.std.proofs.lemmas.Bool.Decides.{eqb_tells, nat_tests}
 use Rattle.std.proofs.lemmas.Slice.Eq.{bytes_eq-Decides}
-use Rattle.slang_tree.specs.declared.codes.ModuleCode.TheVariants as c
+use Rattle.slang_names.specs.declared.codes.ModuleCode.TheVariants as c
 use Rattle.slang_tokens.specs.declared.bytes.Set.TheVariants as set
 use Rattle.slang_tokens.specs.declared.bytes.Radix.{Radix}
 use Rattle.slang_tokens.specs.declared.bytes.Radix.TheVariants as radix

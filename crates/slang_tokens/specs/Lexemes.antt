@@ -1,9 +1,9 @@
 -- Which bytes are a lexeme, and what they are. A text is cut into the longest lexemes that begin at each place; what
 -- is refused is a lexeme too, so that every text has one cutting.
 use Rattle.std.specs.Prelude.{◌≡◌, ◌<◌, ◌≤◌, ℕ, ◌+◌, Bool, true, false, ◌&&◌, ◌||◌, if◌then◌else◌, ◌==◌, nat_le, List, [], ◌∷◌, take, drop, length, Option, Some, None}
-use Rattle.slang_tree.specs.declared.codes.ModuleCode.TheVariants as c
-use Rattle.slang_tree.specs.declared.numbers.NumberKind.{NumberKind}
-use Rattle.slang_tree.specs.declared.numbers.NumberKind.TheVariants as sign
+use Rattle.slang_names.specs.declared.codes.ModuleCode.TheVariants as c
+use Rattle.slang_names.specs.declared.numbers.NumberKind.{NumberKind}
+use Rattle.slang_names.specs.declared.numbers.NumberKind.TheVariants as sign
 use Rattle.slang_tokens.specs.declared.bytes.Set.TheVariants as set
 use Rattle.slang_tokens.specs.declared.bytes.Radix.{Radix}
 use Rattle.slang_tokens.specs.declared.bytes.Radix.TheVariants as radix

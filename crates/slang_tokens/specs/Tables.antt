@@ -2,8 +2,8 @@
 use Rattle.std.specs.Prelude.{ℕ, List, [], ◌∷◌, codes, Option, Some, None, if◌then◌else◌}
 use Rattle.std.specs.Str.{bytes_eq}
 use denote.Ref.{Bor}
-use Rattle.slang_tree.specs.declared.codes.ModuleCode.{ModuleCode}
-use Rattle.slang_tree.specs.declared.codes.ModuleCode.TheVariants as c
+use Rattle.slang_names.specs.declared.codes.ModuleCode.{ModuleCode}
+use Rattle.slang_names.specs.declared.codes.ModuleCode.TheVariants as c
 use Rattle.slang_tokens.specs.declared.tokens.Mark.{Mark}
 use Rattle.slang_tokens.specs.declared.tokens.Mark.TheVariants as m
 use Rattle.slang_tokens.specs.declared.tokens.Word.{Word}

@@ -6,7 +6,7 @@ ghost use Rattle.slang_tokens.specs.Lexemes.{IsLongest, Bounds};
 use crate::bytes::{Set, is_digit, is_letter, run};
 use crate::lexemes::{Lexeme, close, lexeme_of};
 use crate::numbers::is_radix;
-use slang_tree::ModuleCode;
+use slang_names::ModuleCode;
 
 /// For what begins with `0` and that byte.
 fn bound_zero_by(b: u8, more: &[u8]) -> usize

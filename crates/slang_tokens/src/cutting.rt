@@ -1,16 +1,16 @@
 // The tokens of a text.
 
 ghost use Rattle.std.specs.Prelude.{◌≡◌, ◌<◌, ◌^◌, length, IfOk, List, Err};
-ghost use Rattle.slang_tree.specs.declared.places.Place.{Place};
-ghost use Rattle.slang_tree.specs.declared.codes.ModuleCode.{ModuleCode};
-ghost use Rattle.slang_tree.specs.declared.faults.ModuleFault.TheVariants as fault;
+ghost use Rattle.slang_names.specs.declared.places.Place.{Place};
+ghost use Rattle.slang_names.specs.declared.codes.ModuleCode.{ModuleCode};
+ghost use Rattle.slang_names.specs.declared.faults.ModuleFault.TheVariants as fault;
 ghost use Rattle.slang_tokens.specs.declared.tokens.Token.{Token};
 ghost use Rattle.slang_tokens.specs.Cutting.{Tokens, Refuses, Finds};
 
 use crate::bounds::longest;
 use crate::lexemes::Lexeme;
 use crate::tokens::Token;
-use slang_tree::{ModuleCode, ModuleFault, Place};
+use slang_names::{ModuleCode, ModuleFault, Place};
 use sqlite_items::Items;
 use std::alloc::Global;
 

@@ -8,7 +8,7 @@ use crate::numbers::number;
 use crate::tables::mark_of;
 use crate::tokens::Kind;
 use crate::words::word;
-use slang_tree::ModuleCode;
+use slang_names::ModuleCode;
 
 /// What the bytes of a lexeme are. A text is cut into the longest lexemes; a refused one ends it.
 #[derive(Clone, Copy, Debug, PartialEq, Eq)]

@@ -15,6 +15,3 @@ pub use cutting::lex;
 pub use laws::{cut_or_refused, one_cutting};
 pub use lexemes::Lexeme;
 pub use tokens::{Kind, Mark, Token, Word};
-
-#[cfg(test)]
-mod tests;

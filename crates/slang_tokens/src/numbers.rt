@@ -6,7 +6,7 @@ ghost use Rattle.slang_tokens.specs.Lexemes as spec;
 use crate::bytes::{Radix, Set, is_in, run, value};
 use crate::lexemes::{Lexeme, ends};
 use crate::tokens::Kind;
-use slang_tree::{ModuleCode, Number, NumberKind};
+use slang_names::{ModuleCode, Number, NumberKind};
 
 fn number_token(kind: NumberKind, value: u32) -> Lexeme
     ensures { result ≡ spec.number_token kind value }

@@ -5,7 +5,7 @@ ghost use Rattle.slang_tokens.specs.Tables as tables;
 ghost use Rattle.slang_tokens.specs.Tables.{entry_of, texts};
 
 use crate::tokens::{Mark, Word};
-use slang_tree::ModuleCode;
+use slang_names::ModuleCode;
 
 /// What the table says of these bytes.
 fn look_up<T: Copy + Drop>(table: &[(&str, T)], bytes: &[u8]) -> Option<T>

@@ -1,6 +1,6 @@
 // Tokens and what they are.
 
-use slang_tree::{Number, Place};
+use slang_names::{Number, Place};
 
 /// The marks. `>` is always a mark by itself: `>>`, `>=` and `>>=` are marks that stand directly behind each other.
 #[derive(Clone, Copy, PartialEq, Eq, Debug)]

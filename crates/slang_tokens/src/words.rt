@@ -6,7 +6,7 @@ ghost use Rattle.slang_tokens.specs.Words as spec;
 use crate::lexemes::Lexeme;
 use crate::tables::{refused_of, word_of};
 use crate::tokens::Kind;
-use slang_tree::ModuleCode;
+use slang_names::ModuleCode;
 
 /// How many components a type has, by what stands behind the name of its scalar.
 #[derive(Clone, Copy, Debug, PartialEq, Eq)]

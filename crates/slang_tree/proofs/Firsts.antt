@@ -1,6 +1,6 @@
 -- The first node that is too deep, over a list.
 use Rattle.std.proofs.Common.{◌≡◌, ℕ, zero, suc, ◌+◌, ◌<◌, ◌≤◌, List, [], ◌∷◌, map, drop, length, get_or, Some, None, sym, ◌∙◌, ap, refl, arith}
-use Rattle.slang_tree.specs.declared.places.Place.{Place}
+use Rattle.slang_names.specs.declared.places.Place.{Place}
 use Rattle.slang_tree.specs.Nesting.{Deep, first_of, or_else}
 
 at_one : {X : Type 0} (f : X → Deep) (xs : List X) (i : ℕ) (x : X) (around : ℕ) → i < length xs → x ≡ get_or xs i x →

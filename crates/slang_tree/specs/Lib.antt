@@ -1,4 +1,1 @@
-pub mod Codes
-pub mod FormCodes
-pub mod Letters
 pub mod Nesting

@@ -1,7 +1,7 @@
 -- How deep the nodes of a file stand in one another. Nodes are blocks, statements, lists in braces, expressions and
 -- types. A term, a declared name with its brackets, a number between `<` and `>` and the word of a cast are none.
 use Rattle.std.specs.Prelude.{ℕ, ◌+◌, List, [], ◌∷◌, map, Option, Some, None, nat_lt, if◌then◌else◌}
-use Rattle.slang_tree.specs.declared.places.Place.{Place}
+use Rattle.slang_names.specs.declared.places.Place.{Place}
 use Rattle.slang_tree.specs.declared.types.TypeTree.{TypeTree, fold-TypeTree}
 use Rattle.slang_tree.specs.declared.types.TypeNode.{TypeNode, fold-TypeNode}
 use Rattle.slang_tree.specs.declared.types.GenericArgument.{GenericArgument, fold-GenericArgument}

@@ -1,6 +1,7 @@
 // Trees of declarations. The place of a declaration is without its attributes and its access word.
 
-use crate::{Access, Attribute, Block, DeclaredName, ExprTree, Identifier, Mode, Place, TypeTree};
+use crate::{Attribute, Block, DeclaredName, ExprTree, Identifier, TypeTree};
+use slang_names::{Access, Mode, Place};
 use sqlite_items::Items;
 
 /// A parameter between `<` and `>`.

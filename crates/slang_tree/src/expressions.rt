@@ -1,6 +1,7 @@
 // Trees of expressions.
 
-use crate::{Builtin, GenericArgument, Identifier, Number, Place};
+use crate::{Builtin, GenericArgument, Identifier};
+use slang_names::{Number, Place};
 use sqlite_items::{Boxed, Items};
 
 /// The operators before an operand.

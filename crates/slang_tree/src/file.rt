@@ -1,9 +1,9 @@
 // The tree of a file.
 
 use crate::{
-    Access, Alias, Attribute, Constant, Extension, Function, Global, Identifier, Interface, Place,
-    Struct,
+    Alias, Attribute, Constant, Extension, Function, Global, Identifier, Interface, Struct,
 };
+use slang_names::{Access, Place};
 use sqlite_items::Items;
 
 /// `module name;` or `import name;`.

@@ -5,13 +5,13 @@ ghost use Rattle.std.specs.Prelude.{◌≡◌, ◌≤◌, map};
 ghost use Rattle.slang_tree.specs.Nesting as nesting;
 ghost use Rattle.slang_tree.specs.Nesting.{first_of};
 
-use crate::limits::NESTING;
 use crate::{
     Block, Change, ChangeNode, ExprNode, ExprTree, Function, GenericArgument, Initializer,
     InnerMember, InnerMemberNode, Item, ItemNode, ListTree, Local, LocalName, LoopStart, Member,
-    MemberNode, Parameter, Place, Requirement, RequirementNode, StatNode, StatTree, TypeNode,
-    TypeTree,
+    MemberNode, Parameter, Requirement, RequirementNode, StatNode, StatTree, TypeNode, TypeTree,
 };
+use slang_names::Place;
+use slang_names::limits::NESTING;
 
 #[cycle(types_in)]
 fn in_type(tree: &TypeTree, around: usize) -> Option<Place>

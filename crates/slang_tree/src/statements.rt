@@ -1,6 +1,7 @@
 // Trees of statements.
 
-use crate::{BinaryOperator, ExprTree, Identifier, Name, Number, Place, Term, TypeTree};
+use crate::{BinaryOperator, ExprTree, Identifier, Term, TypeTree};
+use slang_names::{Name, Number, Place};
 use sqlite_items::{Boxed, Items};
 
 /// A number or a string in an attribute. The bytes of a string are those between its quotes.

@@ -3,8 +3,9 @@
 ghost use Rattle.std.specs.Prelude.{◌≡◌, ◌↔◌, IsOk, IfOk, IfErr, Some, None};
 ghost use Rattle.slang_tree.specs.Nesting.{first_too_deep};
 
+use crate::File;
 use crate::nesting::in_items;
-use crate::{File, Place};
+use slang_names::Place;
 use std::marker::Model;
 
 /// The tree of a text: a file in which no node stands in 64 or more others. A contract sees the file.

@@ -1,6 +1,6 @@
 // Trees of types.
 
-use crate::{Name, Number, Place};
+use slang_names::{Name, Number, Place};
 use sqlite_items::{Boxed, Items};
 
 /// A name where it stands in the text.

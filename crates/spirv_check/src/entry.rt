@@ -3,7 +3,7 @@
 ghost use Rattle.std.specs.Prelude.{◌≡◌, ◌≤◌, length, take, drop, slice_index, IfOk};
 ghost use Rattle.spirv_check.specs.Entry.{first_operands, before_zero, entry_name, group_size};
 
-use slang_tree::Name;
+use slang_names::Name;
 use spirv_words::{Instruction, Op, to_bytes};
 use std::alloc::{AllocError, Global};
 

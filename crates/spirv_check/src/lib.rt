@@ -5,8 +5,6 @@ mod check;
 mod entry;
 mod faults;
 mod laws;
-#[cfg(test)]
-mod tests;
 mod valid;
 
 pub use check::check_image;

@@ -5,7 +5,7 @@ ghost use Rattle.spirv_check.specs.Entry.{entry_name, group_size};
 ghost use Rattle.spirv_check.specs.Valid.{Valid};
 
 use crate::entry::{entry_name, group_size};
-use slang_tree::Name;
+use slang_names::Name;
 use spirv_words::Image;
 use std::alloc::{AllocError, Global};
 use std::marker::Model;

@@ -1,8 +1,8 @@
 -- What a dispatch answers.
 use Rattle.std.proofs.Common.{◌≡◌, inl, inr, ℕ, ◌*◌, ◌<◌, ◌≤◌, List, Result, Ok, Err, refl, sym, subst, ◌∙◌}
 use Rattle.std.proofs.lemmas.Bool.{cases_lt}
-use Rattle.slang_tree.specs.declared.faults.RunCause.{RunCause}
-use Rattle.slang_tree.specs.declared.faults.RunCause.TheVariants.{DispatchLimit, BufferMissing}
+use Rattle.slang_names.specs.declared.faults.RunCause.{RunCause}
+use Rattle.slang_names.specs.declared.faults.RunCause.TheVariants.{DispatchLimit, BufferMissing}
 use Rattle.spirv_words.specs.declared.images.Image.{Image}
 use Rattle.run_buffers.specs.declared.buffer.Buffer.{Buffer}
 use Rattle.run_buffers.specs.declared.faults.RunFault.{RunFault}

@@ -1,6 +1,6 @@
 -- When a dispatch comes to its end.
 use Rattle.std.proofs.Common.{◌≡◌, ℕ, ◌<◌, ◌≤◌, List, Result, Ok, Err, sym, subst, arith}
-use Rattle.slang_tree.specs.declared.faults.RunCause.{RunCause}
+use Rattle.slang_names.specs.declared.faults.RunCause.{RunCause}
 use Rattle.spirv_words.specs.declared.images.Image.{Image}
 use Rattle.run_buffers.specs.declared.buffer.Buffer.{Buffer}
 use Rattle.run_buffers.specs.declared.faults.RunFault.{RunFault}

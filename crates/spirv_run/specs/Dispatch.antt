@@ -1,7 +1,7 @@
 -- What a dispatch is: the invocations of an image one after another, each on the memory that the one before left.
 use Rattle.std.specs.Prelude.{◌≡◌, ◌≢◌, ◌⊎◌, ℕ, zero, suc, ◌+◌, ◌*◌, ◌<◌, ◌≤◌, true, List, Some, Result, Ok, Err, slice_get}
 use Rattle.behavior.specs.Meanings.{Done, Out, Undefined as IsUndefined}
-use Rattle.slang_tree.specs.declared.faults.RunCause.TheVariants.{NoEntry, DispatchLimit, BufferMissing}
+use Rattle.slang_names.specs.declared.faults.RunCause.TheVariants.{NoEntry, DispatchLimit, BufferMissing}
 use Rattle.spirv_words.specs.declared.images.Instruction.{Instruction}
 use Rattle.spirv_words.specs.declared.images.Image.{Image}
 use Rattle.run_buffers.specs.declared.buffer.Buffer.{Buffer}

@@ -15,7 +15,7 @@ use crate::ran::Ran;
 use crate::runner::Runner;
 use crate::turns::Turn;
 use run_buffers::{Buffers, Ids, RunFault, ids_of, invocation_count};
-use slang_tree::{Name, RunCause};
+use slang_names::{Name, RunCause};
 
 /// Runs groups of invocations of an image, one invocation after another, each within so many steps. It takes no memory. After
 /// `Undefined` and `Budget` the buffers hold what the steps so far wrote.

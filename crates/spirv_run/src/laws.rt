@@ -1,7 +1,7 @@
 // Laws of dispatches.
 
 ghost use Rattle.std.specs.Prelude.{◌≡◌, ℕ, ◌<◌, ◌≤◌, List, Result, Err};
-ghost use Rattle.slang_tree.specs.declared.faults.RunCause.{RunCause};
+ghost use Rattle.slang_names.specs.declared.faults.RunCause.{RunCause};
 ghost use Rattle.spirv_words.specs.declared.images.Image.{Image};
 ghost use Rattle.run_buffers.specs.declared.buffer.Buffer.{Buffer};
 ghost use Rattle.run_buffers.specs.declared.faults.RunFault.{RunFault};

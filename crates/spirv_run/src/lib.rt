@@ -18,6 +18,3 @@ pub use ran::Ran;
 pub use run_buffers::{Buffers, Ids, RunFault};
 pub use runner::Runner;
 pub use turns::Turn;
-
-#[cfg(test)]
-mod tests;

@@ -22,7 +22,7 @@ use crate::binding::bind;
 use crate::turns::Turn;
 use run_buffers::{Buffers, Ids};
 use run_plans::{Bound, Plan, plan_of};
-use slang_tree::Name;
+use slang_names::Name;
 use spirv_check::ValidImage;
 use std::alloc::{AllocError, Global};
 use std::marker::Model;

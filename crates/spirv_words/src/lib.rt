@@ -10,8 +10,6 @@ mod layouts;
 mod opcodes;
 mod reading;
 mod strings;
-#[cfg(test)]
-mod tests;
 mod writing;
 
 pub use bytes::{from_bytes, to_bytes};

@@ -1,7 +1,7 @@
 -- What is looked at ahead, beside the same with more room.
 use Rattle.std.proofs.Common.{Bool, true, false, ◌≡◌, ◌+◌, List, [], ◌∷◌, Option, Some, None, refl, ap, arith}
 use Rattle.slang_tree.specs.declared.types.Identifier.{Identifier}
-use Rattle.slang_tree.specs.declared.places.Place.{Place}
+use Rattle.slang_names.specs.declared.places.Place.{Place}
 use Rattle.slang_tree.specs.declared.types.TypeNode.TheVariants as n
 use Rattle.slang_tokens.specs.declared.tokens.Kind.{Kind}
 use Rattle.slang_tokens.specs.declared.tokens.Kind.TheVariants as k

@@ -1,6 +1,6 @@
 -- Changes and calls, and what is either locals or a change: what was looked at, but for the last token, goes on to be one.
 use Rattle.std.proofs.Common.{Bool, true, false, ◌≡◌, ℕ, suc, ◌+◌, ◌<◌, ◌≤◌, List, [], ◌∷◌, Option, Some, None, refl, sym, ap, subst, eq-eqb, arith}
-use Rattle.slang_tree.specs.declared.places.Place.{Place}
+use Rattle.slang_names.specs.declared.places.Place.{Place}
 use Rattle.slang_tree.specs.declared.expressions.BinaryOperator.{BinaryOperator}
 use Rattle.slang_tree.specs.declared.expressions.BinaryOperator.TheVariants as o
 use Rattle.slang_tree.specs.declared.expressions.ExprTree.{ExprTree}

@@ -2,7 +2,7 @@
 -- through the parts that parsers are built of.
 use Rattle.std.proofs.Common.{◌≡◌, ℕ, zero, suc, ◌+◌, ◌<◌, ◌≤◌, max, List, ◌++◌, length, drop, Option, Some, None, refl, ◌∙◌, ap, subst, arith, ◌⊎◌, inl, inr}
 use Rattle.std.proofs.Math.Path.{fun_ext}
-use Rattle.slang_tree.specs.declared.codes.ModuleCode.TheVariants as code
+use Rattle.slang_names.specs.declared.codes.ModuleCode.TheVariants as code
 use Rattle.slang_reading.specs.Lexed.{Lexed}
 use Rattle.slang_reading.specs.Reading.{Outcome, Done, Stop, Past, Parser, and_then, bind, ◌>>=◌, pure, place_of, first, Choice, Leave, Take, Refuse, Pass, chosen, next}
 use Rattle.slang_reading.proofs.Tame.{seen_of, seen_rises, Bounded, Tame, tame_pure, tame_bind, Each}

@@ -1,7 +1,7 @@
 -- What of a statement within the limits is within them too.
 use Rattle.std.proofs.Common.{Bool, true, false, ◌&&◌, refl, ◌≡◌, ℕ, suc, ◌+◌, ◌<◌, ◌≤◌, max, List, [], ◌∷◌, ◌++◌, length, map, length-append, Option, Some, arith, rules}
 use Rattle.std.proofs.lemmas.List.{length-map}
-use Rattle.slang_tree.specs.declared.places.Place.{Place}
+use Rattle.slang_names.specs.declared.places.Place.{Place}
 use Rattle.slang_tree.specs.declared.types.TypeTree.{TypeTree}
 use Rattle.slang_tree.specs.declared.types.Term.{Term}
 use Rattle.slang_tree.specs.declared.types.Identifier.{Identifier}

@@ -1,6 +1,6 @@
 -- What of a statement within the limits is within them too, where its attributes obey the rules.
 use Rattle.std.proofs.Common.{true, ◌≡◌, ℕ, zero, suc, ◌≤◌, ◌&&◌, max, List, [], ◌∷◌, ◌++◌, map, Option, refl, sym, ◌∙◌, arith, rules}
-use Rattle.slang_tree.specs.declared.places.Place.{Place}
+use Rattle.slang_names.specs.declared.places.Place.{Place}
 use Rattle.slang_tree.specs.declared.expressions.ExprTree.{ExprTree}
 use Rattle.slang_tree.specs.declared.statements.Attribute.{Attribute}
 use Rattle.slang_tree.specs.declared.statements.Local.{Local}

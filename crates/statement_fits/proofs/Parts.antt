@@ -1,7 +1,7 @@
 -- Locals and the parts of statements: what is spelled within the limits is read.
 use Rattle.std.proofs.Common.{true, false, ◌≡◌, ℕ, ◌+◌, List, drop, Option, Some, None, refl, ◌∙◌, ap, max}
 use Rattle.slang_tree.specs.declared.types.Identifier.{Identifier}
-use Rattle.slang_tree.specs.declared.places.Place.{Place}
+use Rattle.slang_names.specs.declared.places.Place.{Place}
 use Rattle.slang_tree.specs.declared.expressions.ExprTree.{ExprTree}
 use Rattle.slang_tree.specs.declared.statements.LocalName.{LocalName}
 use Rattle.slang_tree.specs.declared.statements.Local.{Local}

@@ -1,12 +1,12 @@
 -- Short texts and their trees, computed by the descent. The token at index n lies at n to n + 1.
 use Rattle.std.proofs.Common.{◌≡◌, ℕ, ◌+◌, false, List, [], ◌∷◌, codes, Some, None, refl}
-use Rattle.slang_tree.specs.declared.places.Place.{Place}
-use Rattle.slang_tree.specs.declared.numbers.NumberKind.TheVariants as sign
+use Rattle.slang_names.specs.declared.places.Place.{Place}
+use Rattle.slang_names.specs.declared.numbers.NumberKind.TheVariants as sign
 use Rattle.slang_tree.specs.declared.types.Identifier.{Identifier}
 use Rattle.slang_tree.specs.declared.expressions.BinaryOperator.TheVariants as o
 use Rattle.slang_tree.specs.declared.expressions.ExprTree.{ExprTree}
 use Rattle.slang_tree.specs.declared.expressions.ExprNode.TheVariants as n
-use Rattle.slang_tree.specs.declared.codes.ModuleCode.TheVariants as code
+use Rattle.slang_names.specs.declared.codes.ModuleCode.TheVariants as code
 use Rattle.slang_tree.specs.declared.types.TypeTree.{TypeTree}
 use Rattle.slang_tree.specs.declared.types.TypeNode.TheVariants as t
 use Rattle.slang_tree.specs.declared.types.GenericArgument.TheVariants as g

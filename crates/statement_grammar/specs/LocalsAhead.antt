@@ -10,7 +10,7 @@ use Rattle.slang_tokens.specs.declared.tokens.Mark.TheVariants as m
 use Rattle.slang_reading.specs.Lexed.{Lexed}
 use Rattle.slang_reading.specs.Reading.{Parser, Choice, Leave, Take, Refuse, ◌>>=◌, ◌>>◌, pure, next, turns}
 use Rattle.slang_reading.specs.Kinds.{sees, span}
-use Rattle.slang_tree.specs.declared.places.Place.{Place}
+use Rattle.slang_names.specs.declared.places.Place.{Place}
 use Rattle.slang_grammar.specs.Types.{typed}
 use Rattle.slang_grammar.specs.Descent.{Limits, expect, name, identifier, if_short, bracketed}
 use Rattle.slang_grammar.specs.TypesDescent.{Type_, Arguments, WordUse, IsBuiltin, IsResource, IsThis, IsOther, use_of, arguments, project, types}

@@ -7,6 +7,3 @@ mod tables;
 
 pub use attributes::{KnownAttribute, Target, attribute_of, may_stand};
 pub use tables::{ChangeUse, StatementUse, change_use, statement_use};
-
-#[cfg(test)]
-mod tests;

@@ -1,6 +1,6 @@
 -- What stands behind an operand of a change, and behind an expression in a statement.
 use Rattle.std.proofs.Common.{Bool, true, false, ◌≡◌, ℕ, ◌||◌, List, drop, Option, refl, ◌∙◌, ap}
-use Rattle.slang_tree.specs.declared.places.Place.{Place}
+use Rattle.slang_names.specs.declared.places.Place.{Place}
 use Rattle.slang_tree.specs.declared.expressions.BinaryOperator.{BinaryOperator}
 use Rattle.slang_tree.specs.declared.statements.Step.{Step}
 use Rattle.slang_tokens.specs.declared.tokens.Kind.TheVariants as k

@@ -1,8 +1,8 @@
 -- Operands of changes: what is spelled is read, but where a limit is passed.
 use Rattle.std.proofs.Common.{Bool, true, false, ◌≡◌, ℕ, zero, suc, ◌+◌, max, List, [], ◌∷◌, ◌++◌, map, drop, length, Some, refl, ◌∙◌, ap, subst, arith, if◌then◌else◌, inr}
 use Rattle.std.specs.Prelude.{nat_lt}
-use Rattle.slang_tree.specs.declared.places.Place.{Place}
-use Rattle.slang_tree.specs.declared.codes.ModuleCode.TheVariants as code
+use Rattle.slang_names.specs.declared.places.Place.{Place}
+use Rattle.slang_names.specs.declared.codes.ModuleCode.TheVariants as code
 use Rattle.slang_tree.specs.declared.types.Identifier.{Identifier}
 use Rattle.slang_tree.specs.declared.types.GenericArgument.{GenericArgument}
 use Rattle.slang_tree.specs.declared.expressions.ExprTree.{ExprTree}

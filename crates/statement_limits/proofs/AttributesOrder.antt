@@ -1,7 +1,7 @@
 -- Of what attributes break the first goes first.
 use Rattle.std.proofs.Common.{not, ℕ, ◌+◌, List, length, Option, Some, None, arith}
 use Rattle.std.specs.Prelude.{nat_le}
-use Rattle.slang_tree.specs.declared.places.Place.{Place}
+use Rattle.slang_names.specs.declared.places.Place.{Place}
 use Rattle.slang_tree.specs.declared.statements.Attribute.{Attribute}
 use Rattle.slang_tree.specs.declared.statements.Literal.{Literal}
 use Rattle.slang_reading.specs.Lexed.{Lexed}

@@ -1,6 +1,6 @@
 -- Changes: the first limit that is broken is told.
 use Rattle.std.proofs.Common.{Bool, true, false, ◌≡◌, ℕ, ◌+◌, ◌≤◌, ◌&&◌, ◌==◌, List, ◌++◌, drop, length, Option, Some, None, refl, sym, ◌∙◌, ap, eq-eqb}
-use Rattle.slang_tree.specs.declared.places.Place.{Place}
+use Rattle.slang_names.specs.declared.places.Place.{Place}
 use Rattle.slang_tree.specs.declared.expressions.BinaryOperator.{BinaryOperator}
 use Rattle.slang_tree.specs.declared.expressions.BinaryOperator.TheVariants as o
 use Rattle.slang_tree.specs.declared.expressions.ExprTree.{ExprTree}

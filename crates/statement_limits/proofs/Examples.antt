@@ -1,10 +1,10 @@
 -- Short texts and what they break first. The token at index n lies at n to n + 1.
 use Rattle.std.proofs.Common.{◌≡◌, ℕ, suc, ◌+◌, false, List, [], ◌∷◌, codes, Option, Some, None, refl}
-use Rattle.slang_tree.specs.declared.places.Place.{Place}
-use Rattle.slang_tree.specs.declared.codes.ModuleCode.{ModuleCode}
-use Rattle.slang_tree.specs.declared.codes.ModuleCode.TheVariants as code
-use Rattle.slang_tree.specs.declared.numbers.Number.{Number}
-use Rattle.slang_tree.specs.declared.numbers.NumberKind.TheVariants as sign
+use Rattle.slang_names.specs.declared.places.Place.{Place}
+use Rattle.slang_names.specs.declared.codes.ModuleCode.{ModuleCode}
+use Rattle.slang_names.specs.declared.codes.ModuleCode.TheVariants as code
+use Rattle.slang_names.specs.declared.numbers.Number.{Number}
+use Rattle.slang_names.specs.declared.numbers.NumberKind.TheVariants as sign
 use Rattle.slang_tree.specs.declared.types.Identifier.{Identifier}
 use Rattle.slang_tree.specs.declared.types.TypeNode.TheVariants as n
 use Rattle.slang_tree.specs.declared.expressions.ExprTree.{ExprTree}

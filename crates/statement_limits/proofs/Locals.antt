@@ -1,8 +1,8 @@
 -- Declared names, lists in braces and locals: the first limit that is broken is told.
 use Rattle.std.proofs.Common.{Bool, true, false, ◌≡◌, ℕ, zero, suc, ◌+◌, ◌<◌, ◌≤◌, ◌||◌, List, [], ◌∷◌, ◌++◌, drop, length, Option, Some, None, refl, sym, ◌∙◌, ap, if◌then◌else◌, arith}
 use Rattle.std.specs.Prelude.{nat_le, nat_lt}
-use Rattle.slang_tree.specs.declared.places.Place.{Place}
-use Rattle.slang_tree.specs.declared.codes.ModuleCode.TheVariants as code
+use Rattle.slang_names.specs.declared.places.Place.{Place}
+use Rattle.slang_names.specs.declared.codes.ModuleCode.TheVariants as code
 use Rattle.slang_tree.specs.declared.types.Identifier.{Identifier}
 use Rattle.slang_tree.specs.declared.types.Term.{Term}
 use Rattle.slang_tree.specs.declared.types.Term.TheVariants as term

@@ -1,7 +1,7 @@
 -- Of what locals and changes break the first goes first.
 use Rattle.std.proofs.Common.{ℕ, suc, ◌+◌, ◌≤◌, List, length, Option, arith}
 use Rattle.std.specs.Prelude.{nat_le}
-use Rattle.slang_tree.specs.declared.places.Place.{Place}
+use Rattle.slang_names.specs.declared.places.Place.{Place}
 use Rattle.slang_tree.specs.declared.types.Term.{Term}
 use Rattle.slang_tree.specs.declared.expressions.BinaryOperator.{BinaryOperator}
 use Rattle.slang_tree.specs.declared.statements.DeclaredName.{DeclaredName}

@@ -1,7 +1,7 @@
 -- Locals and the parts of statements: the first limit that is broken is told.
 use Rattle.std.proofs.Common.{Bool, true, false, ◌≡◌, ℕ, ◌+◌, ◌≤◌, List, drop, length, Option, Some, None, refl, ◌∙◌, ap}
 use Rattle.slang_tree.specs.declared.types.Identifier.{Identifier}
-use Rattle.slang_tree.specs.declared.places.Place.{Place}
+use Rattle.slang_names.specs.declared.places.Place.{Place}
 use Rattle.slang_tree.specs.declared.expressions.ExprTree.{ExprTree}
 use Rattle.slang_tree.specs.declared.statements.LocalName.{LocalName}
 use Rattle.slang_tree.specs.declared.statements.Local.{Local}

@@ -1,6 +1,6 @@
 -- Of what a statement or a block breaks the first goes first.
 use Rattle.std.proofs.Common.{ℕ, ◌+◌, List, [], Option, arith}
-use Rattle.slang_tree.specs.declared.places.Place.{Place}
+use Rattle.slang_names.specs.declared.places.Place.{Place}
 use Rattle.slang_tree.specs.declared.expressions.ExprTree.{ExprTree}
 use Rattle.slang_tree.specs.declared.statements.Change.{Change}
 use Rattle.slang_tree.specs.declared.statements.LoopStart.{LoopStart}

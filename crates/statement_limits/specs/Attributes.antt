@@ -1,6 +1,6 @@
 -- The limits and rules that attributes break, in the order of the tokens at which that is known.
 use Rattle.std.specs.Prelude.{ℕ, ◌+◌, not, List, [], ◌++◌, Some}
-use Rattle.slang_tree.specs.declared.places.Place.{Place}
+use Rattle.slang_names.specs.declared.places.Place.{Place}
 use Rattle.slang_tree.specs.declared.statements.Attribute.{Attribute}
 use Rattle.slang_tree.specs.declared.statements.Literal.{Literal}
 use Rattle.slang_reading.specs.Lexed.{Lexed}

@@ -1,8 +1,8 @@
 -- Rules on attributes that are broken, each at the token at which it is known.
 use Rattle.std.specs.Prelude.{ℕ, Bool, true, false, ◌&&◌, ◌||◌, ◌==◌, not, List, [], ◌∷◌, ◌++◌, Option, Some, None}
 use Rattle.std.specs.List.{list_all}
-use Rattle.slang_tree.specs.declared.places.Place.{Place}
-use Rattle.slang_tree.specs.declared.codes.ModuleCode.TheVariants as code
+use Rattle.slang_names.specs.declared.places.Place.{Place}
+use Rattle.slang_names.specs.declared.codes.ModuleCode.TheVariants as code
 use Rattle.statement_grammar.specs.declared.attributes.KnownAttribute.{KnownAttribute}
 use Rattle.statement_grammar.specs.declared.attributes.Target.{Target}
 use Rattle.statement_grammar.specs.AttributeTables.{may_stand, attribute_code}

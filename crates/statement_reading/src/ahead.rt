@@ -16,9 +16,9 @@ ghost use Rattle.statement_reading.specs.Treeless as spec;
 
 use ahead_reading::{Scans, scan_known};
 use slang_grammar::{builtin_of, resource_of};
+use slang_names::ModuleCode;
 use slang_reading::{Fault, Tokens};
 use slang_tokens::{Kind, Mark, Word};
-use slang_tree::ModuleCode;
 use std::alloc::{AllocError, Global};
 use type_reading::{Limits, expect};
 

@@ -9,9 +9,10 @@ ghost use Rattle.ahead_reading.specs.Knowing.{Ready};
 use crate::braces::stats;
 use crate::descent::statements;
 use ahead_reading::Scans;
+use slang_names::{ModuleCode, Place};
 use slang_reading::{Fault, Tokens, span};
 use slang_tokens::Mark;
-use slang_tree::{Block, ModuleCode, Place, StatTree};
+use slang_tree::{Block, StatTree};
 use std::alloc::Global;
 use type_reading::Limits;
 

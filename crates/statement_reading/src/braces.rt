@@ -9,9 +9,10 @@ ghost use Rattle.ahead_reading.specs.Knowing.{Ready};
 
 use crate::plain::in_block;
 use ahead_reading::Scans;
+use slang_names::{ModuleCode, Place};
 use slang_reading::{Fault, Tokens, span};
 use slang_tokens::Mark;
-use slang_tree::{ModuleCode, Place, StatNode, StatTree};
+use slang_tree::{StatNode, StatTree};
 use sqlite_items::Items;
 use std::alloc::Global;
 use type_reading::{Limits, expect};

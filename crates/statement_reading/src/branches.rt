@@ -9,9 +9,10 @@ ghost use Rattle.ahead_reading.specs.Knowing.{Ready};
 use crate::nodes::{if_alone, if_both};
 use crate::parts::condition;
 use ahead_reading::Scans;
+use slang_names::Place;
 use slang_reading::{Fault, Tokens, span};
 use slang_tokens::Word;
-use slang_tree::{ExprTree, Place, StatTree};
+use slang_tree::{ExprTree, StatTree};
 use std::alloc::Global;
 use type_reading::Limits;
 

@@ -12,9 +12,10 @@ ghost use Rattle.ahead_reading.specs.Knowing.{Ready};
 
 use ahead_reading::Scans;
 use expression_reading::{begins_expression, expressions};
+use slang_names::{ModuleCode, Place};
 use slang_reading::{Fault, Tokens, is_mark, span};
 use slang_tokens::{Kind, Mark};
-use slang_tree::{Initializer, ListTree, ModuleCode, Place};
+use slang_tree::{Initializer, ListTree};
 use sqlite_items::Items;
 use std::alloc::Global;
 use type_reading::{Limits, expect};

@@ -5,7 +5,8 @@ ghost use Rattle.slang_tree.specs.declared.statements.StatNode.TheVariants as s;
 ghost use Rattle.statement_grammar.specs.Attributes as attributes;
 ghost use Rattle.statement_grammar.specs.Statements.{stated};
 
-use slang_tree::{Attribute, Change, ExprTree, LoopStart, Place, StatNode, StatTree};
+use slang_names::Place;
+use slang_tree::{Attribute, Change, ExprTree, LoopStart, StatNode, StatTree};
 use sqlite_items::{Boxed, Items};
 use std::alloc::{AllocError, Global};
 

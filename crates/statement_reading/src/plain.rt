@@ -14,9 +14,10 @@ ghost use Rattle.ahead_reading.specs.Knowing.{Ready};
 
 use crate::parts::{SimpleStatement, maybe, simple};
 use ahead_reading::Scans;
+use slang_names::{ModuleCode, Place};
 use slang_reading::{Fault, Tokens, span};
 use slang_tokens::Mark;
-use slang_tree::{Change, Local, ModuleCode, Place, StatNode, StatTree};
+use slang_tree::{Change, Local, StatNode, StatTree};
 use statement_grammar::{StatementUse, statement_use};
 use std::alloc::Global;
 use type_reading::{Limits, expect};

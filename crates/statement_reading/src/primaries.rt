@@ -8,9 +8,10 @@ ghost use Rattle.ahead_reading.specs.Knowing.{Ready};
 
 use ahead_reading::Scans;
 use expression_reading::{begins_expression, postfix};
+use slang_names::ModuleCode;
 use slang_reading::{Fault, Tokens};
 use slang_tokens::{Kind, Mark};
-use slang_tree::{ExprTree, ModuleCode};
+use slang_tree::ExprTree;
 use std::alloc::Global;
 use type_reading::Limits;
 

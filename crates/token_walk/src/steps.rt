@@ -4,8 +4,8 @@ ghost use Rattle.std.specs.Prelude.{◌≡◌};
 ghost use Rattle.token_walk.specs.Steps as spec;
 
 use slang_grammar::{binary_of, builtin_of, resource_of};
+use slang_names::Place;
 use slang_tokens::{Kind, Mark, Word};
-use slang_tree::Place;
 
 /// Where the walk goes on behind a bracket that closes.
 #[derive(Clone, Copy, PartialEq, Eq, Debug)]

@@ -2,8 +2,8 @@
 use Rattle.std.proofs.Common.{◌≡◌, ℕ, zero, suc, ◌^◌, ◌<◌, Bool, true, false, cond, List, [], ◌∷◌, ◌++◌, length, length-append, Option, Some, None, refl, subst, arith}
 use Rattle.std.specs.List.{AllByRecursion}
 use Rattle.std.proofs.lemmas.Bool.{ltb-true}
-use Rattle.slang_tree.specs.declared.numbers.NumberKind.{NumberKind}
-use Rattle.slang_tree.specs.declared.numbers.NumberKind.TheVariants as kind
+use Rattle.slang_names.specs.declared.numbers.NumberKind.{NumberKind}
+use Rattle.slang_names.specs.declared.numbers.NumberKind.TheVariants as kind
 use Rattle.slang_tree.specs.declared.expressions.ExprNode.{ExprNode, out-ExprNode}
 use Rattle.slang_tree.specs.declared.expressions.ExprNode.TheOpen.{ExprNode-F}
 use Rattle.slang_tree.specs.declared.expressions.ExprNode.TheOpen as e

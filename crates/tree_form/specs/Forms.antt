@@ -1,12 +1,12 @@
 -- The shader that the tree of a file is, where it is of the first form. Places count for nothing.
 use Rattle.std.specs.Prelude.{ℕ, zero, suc, ◌^◌, Bool, true, false, not, ◌&&◌, ◌==◌, nat_lt, if◌then◌else◌, List, [], ◌∷◌, ◌++◌, length, codes, Option, Some, None}
 use Rattle.std.specs.Str.{bytes_eq}
-use Rattle.slang_tree.specs.declared.places.Access.{Access}
-use Rattle.slang_tree.specs.declared.places.Mode.{Mode}
-use Rattle.slang_tree.specs.declared.places.Mode.TheVariants as mode
-use Rattle.slang_tree.specs.declared.numbers.Number.{Number}
-use Rattle.slang_tree.specs.declared.numbers.NumberKind.{NumberKind}
-use Rattle.slang_tree.specs.declared.numbers.NumberKind.TheVariants as kind
+use Rattle.slang_names.specs.declared.places.Access.{Access}
+use Rattle.slang_names.specs.declared.places.Mode.{Mode}
+use Rattle.slang_names.specs.declared.places.Mode.TheVariants as mode
+use Rattle.slang_names.specs.declared.numbers.Number.{Number}
+use Rattle.slang_names.specs.declared.numbers.NumberKind.{NumberKind}
+use Rattle.slang_names.specs.declared.numbers.NumberKind.TheVariants as kind
 use Rattle.slang_tree.specs.declared.types.Identifier.{Identifier}
 use Rattle.slang_tree.specs.declared.types.Builtin.TheVariants as b
 use Rattle.slang_tree.specs.declared.types.Resource.TheVariants as r

@@ -7,8 +7,9 @@ ghost use Rattle.tree_form.specs.Forms as form;
 
 use crate::words::is_word;
 use first_form::GroupSize;
-use slang_tree::limits::{GROUP_DEPTH, GROUP_SIZE};
-use slang_tree::{Attribute, AttributeNode, Literal, NumberKind};
+use slang_names::NumberKind;
+use slang_names::limits::{GROUP_DEPTH, GROUP_SIZE};
+use slang_tree::{Attribute, AttributeNode, Literal};
 
 fn is_compute(literal: &Literal) -> bool
     ensures { result ≡ form.is_compute literal.now }

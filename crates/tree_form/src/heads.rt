@@ -9,7 +9,8 @@ use crate::attributes::group_of;
 use crate::kinds::{is_buffer, is_uint3, is_void};
 use crate::words::{are_names, is_word};
 use first_form::GroupSize;
-use slang_tree::{Access, File, Function, Identifier, Item, ItemNode, Mode, Parameter, StatTree};
+use slang_names::{Access, Mode};
+use slang_tree::{File, Function, Identifier, Item, ItemNode, Parameter, StatTree};
 
 fn has_no_access(access: &Option<Access>) -> bool
     ensures { result ≡ form.has_no_access access.now }

@@ -6,7 +6,8 @@ ghost use Rattle.tree_form.specs.Forms.{form_of};
 use crate::heads::head_of;
 use crate::statements::statements_of;
 use first_form::Shader;
-use slang_tree::{File, Name};
+use slang_names::Name;
+use slang_tree::File;
 use std::alloc::{AllocError, Global};
 
 /// The shader that the file is, if it is of the first form. Calls itself at most 32 deep.

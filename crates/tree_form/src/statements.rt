@@ -7,7 +7,7 @@ ghost use Rattle.tree_form.specs.Forms as form;
 use crate::sums::sum_of;
 use crate::words::is_named;
 use first_form::Statement;
-use slang_tree::limits::SUM_ITEMS;
+use slang_names::limits::SUM_ITEMS;
 use slang_tree::{Change, ChangeNode, ExprNode, ExprTree, StatNode, StatTree};
 use sqlite_items::Items;
 use std::alloc::{AllocError, Global};

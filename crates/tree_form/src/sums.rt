@@ -6,7 +6,8 @@ ghost use Rattle.tree_form.specs.Forms as form;
 
 use crate::words::{is_named, is_word};
 use first_form::{Item, Sum};
-use slang_tree::{BinaryOperator, ExprNode, ExprTree, Number, NumberKind};
+use slang_names::{Number, NumberKind};
+use slang_tree::{BinaryOperator, ExprNode, ExprTree};
 use sqlite_items::Items;
 use std::alloc::{AllocError, Global};
 

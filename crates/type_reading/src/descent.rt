@@ -14,9 +14,10 @@ use crate::nodes::{builtin, named, resource, this_type};
 use crate::starts::{begins_type, is_this};
 use crate::suffixes::type_rest;
 use slang_grammar::{builtin_of, resource_of};
+use slang_names::{ModuleCode, Place};
 use slang_reading::{Fault, Tokens, span};
 use slang_tokens::{Kind, Mark, Word};
-use slang_tree::{GenericArgument, Identifier, ModuleCode, Place, Resource, TypeTree};
+use slang_tree::{GenericArgument, Identifier, Resource, TypeTree};
 use sqlite_items::Items;
 use std::alloc::Global;
 

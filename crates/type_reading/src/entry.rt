@@ -12,9 +12,9 @@ ghost use Rattle.type_reading.specs.Reads.{one_type, Answers, SomeTypeBegins};
 
 use crate::descent::types;
 use crate::limits::LANGUAGE;
+use slang_names::limits::NESTING;
 use slang_reading::{Fault, Tokens};
 use slang_tree::TypeTree;
-use slang_tree::limits::NESTING;
 use std::alloc::Global;
 
 /// The type that the next tokens spell, within the limits of the language; the cursor then stands behind it. A type within

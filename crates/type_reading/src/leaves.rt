@@ -7,9 +7,10 @@ ghost use Rattle.slang_grammar.specs.Descent as descent;
 ghost use Rattle.type_reading.specs.Limited.{limits_of};
 
 use crate::limits::Limits;
+use slang_names::{ModuleCode, Name, Place};
 use slang_reading::{Fault, Tokens, is_mark};
 use slang_tokens::{Kind, Mark};
-use slang_tree::{Identifier, ModuleCode, Name, Place, Term};
+use slang_tree::{Identifier, Term};
 use std::alloc::{AllocError, Global};
 
 /// That mark, and where it lies.

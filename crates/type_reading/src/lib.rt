@@ -21,6 +21,3 @@ pub use limits::{LANGUAGE, Limits};
 pub use scanning::scan_arguments;
 pub use starts::begins_type;
 pub use steps::{Awaited, Open, Step, step_of};
-
-#[cfg(test)]
-mod tests;

@@ -1,6 +1,6 @@
 // How much the functions read.
 
-use slang_tree::limits::{LIST_ITEMS, NAME_BYTES, TEXT_BYTES};
+use slang_names::limits::{LIST_ITEMS, NAME_BYTES, TEXT_BYTES};
 
 /// How many turns a loop makes, items a list has, and bytes a name has, at most.
 #[derive(Clone, Copy)]

@@ -4,7 +4,8 @@ ghost use Rattle.std.specs.Prelude.{◌≡◌, IfOk};
 ghost use Rattle.slang_tree.specs.declared.types.TypeNode.TheVariants as n;
 ghost use Rattle.slang_grammar.specs.Types.{typed};
 
-use slang_tree::{Builtin, GenericArgument, Identifier, Place, Resource, Term, TypeNode, TypeTree};
+use slang_names::Place;
+use slang_tree::{Builtin, GenericArgument, Identifier, Resource, Term, TypeNode, TypeTree};
 use sqlite_items::{Boxed, Items};
 use std::alloc::{AllocError, Global};
 

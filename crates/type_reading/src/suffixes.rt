@@ -11,9 +11,10 @@ ghost use Rattle.type_reading.specs.Limited.{limits_of};
 use crate::leaves::{bracketed, expect, name};
 use crate::limits::Limits;
 use crate::nodes::{array, projection};
+use slang_names::ModuleCode;
 use slang_reading::{Fault, Tokens, span};
 use slang_tokens::Mark;
-use slang_tree::{ModuleCode, TypeTree};
+use slang_tree::TypeTree;
 use std::alloc::Global;
 
 /// Behind a dot.

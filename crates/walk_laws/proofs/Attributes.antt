@@ -1,7 +1,7 @@
 -- The walk goes through attributes.
 use Rattle.std.proofs.Common.{ℕ, ◌+◌, List, refl}
-use Rattle.slang_tree.specs.declared.places.Place.{Place}
-use Rattle.slang_tree.specs.declared.numbers.Number.{Number}
+use Rattle.slang_names.specs.declared.places.Place.{Place}
+use Rattle.slang_names.specs.declared.numbers.Number.{Number}
 use Rattle.slang_tree.specs.declared.statements.Attribute.{Attribute}
 use Rattle.slang_tree.specs.declared.statements.Literal.{Literal}
 use Rattle.slang_tokens.specs.declared.tokens.Kind.TheVariants as k

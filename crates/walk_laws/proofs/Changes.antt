@@ -1,6 +1,6 @@
 -- The walk goes through changes.
 use Rattle.std.proofs.Common.{None, ◌≡◌, ℕ, ◌+◌, List, Option, refl, ap}
-use Rattle.slang_tree.specs.declared.places.Place.{Place}
+use Rattle.slang_names.specs.declared.places.Place.{Place}
 use Rattle.slang_tree.specs.declared.expressions.BinaryOperator.{BinaryOperator}
 use Rattle.slang_tree.specs.declared.statements.Change.{Change}
 use Rattle.slang_tree.specs.declared.statements.Step.{Step}

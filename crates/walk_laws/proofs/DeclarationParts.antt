@@ -1,8 +1,8 @@
 -- The walk through parts of declarations.
 use Rattle.std.proofs.Common.{ℕ, ◌+◌, List, ◌∷◌, Option, refl}
-use Rattle.slang_tree.specs.declared.places.Place.{Place}
-use Rattle.slang_tree.specs.declared.places.Access.{Access}
-use Rattle.slang_tree.specs.declared.places.Mode.{Mode as Passing}
+use Rattle.slang_names.specs.declared.places.Place.{Place}
+use Rattle.slang_names.specs.declared.places.Access.{Access}
+use Rattle.slang_names.specs.declared.places.Mode.{Mode as Passing}
 use Rattle.slang_tree.specs.declared.types.Identifier.{Identifier}
 use Rattle.slang_tree.specs.declared.types.Term.{Term}
 use Rattle.slang_tree.specs.declared.types.TypeTree.{TypeTree}

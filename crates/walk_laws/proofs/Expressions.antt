@@ -1,8 +1,8 @@
 -- The walk goes through each expression, and through each place of a change.
 use Rattle.std.proofs.Common.{Bool, ◌≡◌, ℕ, ◌+◌, List, ◌∷◌, Some, refl, ◌∙◌, ap, if◌then◌else◌}
 use Rattle.std.proofs.lemmas.Bool.{eq-eqb}
-use Rattle.slang_tree.specs.declared.places.Place.{Place}
-use Rattle.slang_tree.specs.declared.numbers.Number.{Number}
+use Rattle.slang_names.specs.declared.places.Place.{Place}
+use Rattle.slang_names.specs.declared.numbers.Number.{Number}
 use Rattle.slang_tree.specs.declared.types.Identifier.{Identifier}
 use Rattle.slang_tree.specs.declared.types.Builtin.{Builtin}
 use Rattle.slang_tree.specs.declared.types.GenericArgument.{GenericArgument}

@@ -1,11 +1,11 @@
 -- How the walk goes from one token to another.
 use Rattle.std.proofs.Common.{true, false, ◌≡◌, ℕ, zero, suc, ◌+◌, ◌<◌, List, drop, Some, None, refl, sym, ◌∙◌, ap, arith}
-use Rattle.slang_tree.specs.declared.places.Place.{Place}
+use Rattle.slang_names.specs.declared.places.Place.{Place}
 use Rattle.slang_tree.specs.declared.types.Identifier.{Identifier}
 use Rattle.slang_tree.specs.declared.types.TypeTree.{TypeTree}
 use Rattle.slang_tree.specs.declared.types.GenericArgument.{GenericArgument}
 use Rattle.slang_tree.specs.declared.expressions.ExprTree.{ExprTree}
-use Rattle.slang_tree.specs.declared.numbers.Number.{Number}
+use Rattle.slang_names.specs.declared.numbers.Number.{Number}
 use Rattle.slang_tree.specs.declared.types.Builtin.{Builtin}
 use Rattle.slang_tree.specs.declared.types.Resource.{Resource}
 use Rattle.slang_tokens.specs.declared.tokens.Word.{Word}

@@ -1,8 +1,8 @@
 -- Where a declaration may stand, and in a `typealias`, the tokens of a type keep the walk so; so do access words and those of modes.
 use Rattle.std.proofs.Common.{◌≡◌, ℕ, ◌+◌, List, Option, Some, None, refl, sym, ◌∙◌, ap, ◌⊎◌, inl, inr}
-use Rattle.slang_tree.specs.declared.places.Place.{Place}
-use Rattle.slang_tree.specs.declared.places.Access.{Access}
-use Rattle.slang_tree.specs.declared.places.Mode.{Mode as Passing}
+use Rattle.slang_names.specs.declared.places.Place.{Place}
+use Rattle.slang_names.specs.declared.places.Access.{Access}
+use Rattle.slang_names.specs.declared.places.Mode.{Mode as Passing}
 use Rattle.slang_tokens.specs.declared.tokens.Kind.{Kind}
 use Rattle.slang_tokens.specs.declared.tokens.Kind.TheVariants as k
 use Rattle.slang_tokens.specs.declared.tokens.Word.{Word}

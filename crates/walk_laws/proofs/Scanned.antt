@@ -1,6 +1,6 @@
 -- The scan comes to the end of generic arguments that are spelled.
 use Rattle.std.proofs.Common.{false, ◌≡◌, ℕ, ◌+◌, max, List, [], ◌∷◌, Option, Some, refl, sym, ◌∙◌, ap, if◌then◌else◌}
-use Rattle.slang_tree.specs.declared.places.Place.{Place}
+use Rattle.slang_names.specs.declared.places.Place.{Place}
 use Rattle.slang_tree.specs.declared.types.Identifier.{Identifier}
 use Rattle.slang_tree.specs.declared.types.Resource.{Resource}
 use Rattle.slang_tree.specs.declared.types.Term.{Term}

@@ -1,6 +1,6 @@
 -- The walk goes through statements and through the bodies of functions.
 use Rattle.std.proofs.Common.{None, ◌≡◌, ℕ, ◌+◌, List, ◌∷◌, Option, refl, ap}
-use Rattle.slang_tree.specs.declared.places.Place.{Place}
+use Rattle.slang_names.specs.declared.places.Place.{Place}
 use Rattle.slang_tree.specs.declared.expressions.ExprTree.{ExprTree}
 use Rattle.slang_tree.specs.declared.statements.Block.{Block}
 use Rattle.slang_tree.specs.declared.statements.Change.{Change}

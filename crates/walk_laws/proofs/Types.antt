@@ -1,7 +1,7 @@
 -- How the walk goes through types and generic arguments.
 use Rattle.std.proofs.Common.{Bool, true, false, ◌≡◌, ℕ, zero, suc, ◌+◌, ◌-◌, ◌<◌, List, [], drop, Option, Some, None, refl, sym, ◌∙◌, ap, subst, arith, ◌==◌, eq-eqb, if◌then◌else◌, inl, inr}
 use Rattle.std.proofs.lemmas.Bool.Decides.{eqb_tells}
-use Rattle.slang_tree.specs.declared.places.Place.{Place}
+use Rattle.slang_names.specs.declared.places.Place.{Place}
 use Rattle.slang_tree.specs.declared.types.Identifier.{Identifier}
 use Rattle.slang_tree.specs.declared.types.Term.{Term}
 use Rattle.slang_tree.specs.declared.types.TypeTree.{TypeTree}

@@ -1,7 +1,7 @@
 // Files of which no read comes about.
 
+use slang_names::Name;
 use slang_store::{FileFault, Files, Found};
-use slang_tree::Name;
 use std::alloc::Global;
 
 /// Files that tell nothing, whose reads all fail and are counted.

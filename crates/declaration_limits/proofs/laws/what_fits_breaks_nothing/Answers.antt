@@ -1,6 +1,6 @@
 use Rattle.std.proofs.Common.{◌≡◌, ℕ, List, [], ◌∷◌, None, refl, sym, ◌∙◌}
-use Rattle.slang_tree.specs.declared.places.Place.{Place}
-use Rattle.slang_tree.specs.declared.codes.ModuleCode.{ModuleCode}
+use Rattle.slang_names.specs.declared.places.Place.{Place}
+use Rattle.slang_names.specs.declared.codes.ModuleCode.{ModuleCode}
 use Rattle.slang_tree.specs.declared.file.File.{File}
 use Rattle.slang_reading.specs.Lexed.{Lexed}
 use Rattle.slang_reading.specs.Reading.{Outcome, Done, Past, Parser, first}

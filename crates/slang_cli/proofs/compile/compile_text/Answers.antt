@@ -1,5 +1,5 @@
 use Rattle.std.proofs.Common.{◌∙◌, ap, Err}
-use Rattle.slang_tree.specs.declared.faults.ModuleFault.{ModuleFault}
+use Rattle.slang_names.specs.declared.faults.ModuleFault.{ModuleFault}
 use Rattle.slang_cli.specs.Answers.{not_parsed}
 use Rattle.slang_cli.specs.Views as view
 use Rattle.slang_cli.proofs.Results.{if_ok_to}

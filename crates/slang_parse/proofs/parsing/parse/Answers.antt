@@ -1,5 +1,5 @@
 use Rattle.std.proofs.Common.{refl, sym, subst, ◌∙◌, ap, Err, Result, length}
-use Rattle.slang_tree.specs.declared.faults.ModuleFault.{ModuleFault}
+use Rattle.slang_names.specs.declared.faults.ModuleFault.{ModuleFault}
 use Rattle.slang_tree.specs.declared.file.File.{File}
 use Rattle.slang_reading.specs.Lexed.{lexed_all}
 use Rattle.type_reading.specs.Limited.{language}

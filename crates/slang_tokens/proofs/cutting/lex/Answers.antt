@@ -1,5 +1,5 @@
 use Rattle.std.proofs.Common.{◌≡◌, ◌-◌, ◌+◌, ◌++◌, ◌∷◌, [], sym, ◌∙◌, arith, rules, subst}
-use Rattle.slang_tree.specs.declared.codes.ModuleCode.TheVariants as code
+use Rattle.slang_names.specs.declared.codes.ModuleCode.TheVariants as code
 use Rattle.slang_tokens.specs.declared.lexemes.Lexeme.TheVariants as x
 use Rattle.slang_tokens.specs.Cutting as cut
 use Rattle.slang_tokens.proofs.Cuts.{SoFar, ended, blank_on, token, token_on, one_cutting, none_refused, longest_as, refusal_is}

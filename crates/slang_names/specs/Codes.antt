@@ -1,0 +1,96 @@
+-- The number and the printed name of each code.
+use Rattle.std.specs.Prelude.{ℕ, List, codes}
+use Rattle.slang_names.specs.declared.codes.ModuleCode.{ModuleCode}
+use Rattle.slang_names.specs.declared.codes.ModuleCode.TheVariants.{BadByte, Preprocessor, BadToken, NumberRange, Syntax, TooNested, TooLong, Float, Existential, Texture, Unsupported, NoModule, ImportCycle, Twice, Unknown, Ambiguous, NoAccess, ModuleName, StaleImport, ModuleLimit, Mismatch, NotCallable, ArgumentCount, NotInferred, NotConform, NotAssignable, ImmutableThis, NoReturn, NotConstant, ArrayLength, RequirementMissing, RequirementDiffers, AssociatedMissing, BindingForm, ExtensionHead, ConformsTwice, SelfContaining, EntryShape, OutsideLoop, ResourcePlace, NoMember, TermSize, StoredSize, NotYet}
+
+abbrev pub code_number : ModuleCode → ℕ
+code_number BadByte = 101
+code_number Preprocessor = 102
+code_number BadToken = 103
+code_number NumberRange = 104
+code_number Syntax = 110
+code_number TooNested = 111
+code_number TooLong = 112
+code_number Float = 120
+code_number Existential = 121
+code_number Texture = 122
+code_number Unsupported = 123
+code_number NoModule = 130
+code_number ImportCycle = 131
+code_number Twice = 132
+code_number Unknown = 133
+code_number Ambiguous = 134
+code_number NoAccess = 135
+code_number ModuleName = 136
+code_number StaleImport = 137
+code_number ModuleLimit = 138
+code_number Mismatch = 140
+code_number NotCallable = 141
+code_number ArgumentCount = 142
+code_number NotInferred = 143
+code_number NotConform = 144
+code_number NotAssignable = 145
+code_number ImmutableThis = 146
+code_number NoReturn = 147
+code_number NotConstant = 148
+code_number ArrayLength = 149
+code_number RequirementMissing = 150
+code_number RequirementDiffers = 151
+code_number AssociatedMissing = 152
+code_number BindingForm = 153
+code_number ExtensionHead = 154
+code_number ConformsTwice = 155
+code_number SelfContaining = 156
+code_number EntryShape = 157
+code_number OutsideLoop = 158
+code_number ResourcePlace = 159
+code_number NoMember = 160
+code_number TermSize = 162
+code_number StoredSize = 164
+code_number NotYet = 199
+
+abbrev pub code_name : ModuleCode → List ℕ
+code_name BadByte = codes "BadByte"
+code_name Preprocessor = codes "Preprocessor"
+code_name BadToken = codes "BadToken"
+code_name NumberRange = codes "NumberRange"
+code_name Syntax = codes "Syntax"
+code_name TooNested = codes "TooNested"
+code_name TooLong = codes "TooLong"
+code_name Float = codes "Float"
+code_name Existential = codes "Existential"
+code_name Texture = codes "Texture"
+code_name Unsupported = codes "Unsupported"
+code_name NoModule = codes "NoModule"
+code_name ImportCycle = codes "ImportCycle"
+code_name Twice = codes "Twice"
+code_name Unknown = codes "Unknown"
+code_name Ambiguous = codes "Ambiguous"
+code_name NoAccess = codes "NoAccess"
+code_name ModuleName = codes "ModuleName"
+code_name StaleImport = codes "StaleImport"
+code_name ModuleLimit = codes "ModuleLimit"
+code_name Mismatch = codes "Mismatch"
+code_name NotCallable = codes "NotCallable"
+code_name ArgumentCount = codes "ArgumentCount"
+code_name NotInferred = codes "NotInferred"
+code_name NotConform = codes "NotConform"
+code_name NotAssignable = codes "NotAssignable"
+code_name ImmutableThis = codes "ImmutableThis"
+code_name NoReturn = codes "NoReturn"
+code_name NotConstant = codes "NotConstant"
+code_name ArrayLength = codes "ArrayLength"
+code_name RequirementMissing = codes "RequirementMissing"
+code_name RequirementDiffers = codes "RequirementDiffers"
+code_name AssociatedMissing = codes "AssociatedMissing"
+code_name BindingForm = codes "BindingForm"
+code_name ExtensionHead = codes "ExtensionHead"
+code_name ConformsTwice = codes "ConformsTwice"
+code_name SelfContaining = codes "SelfContaining"
+code_name EntryShape = codes "EntryShape"
+code_name OutsideLoop = codes "OutsideLoop"
+code_name ResourcePlace = codes "ResourcePlace"
+code_name NoMember = codes "NoMember"
+code_name TermSize = codes "TermSize"
+code_name StoredSize = codes "StoredSize"
+code_name NotYet = codes "NotYet"
