@@ -7,7 +7,7 @@ use slang_names::{Access, Mode};
 use slang_tokens::{Kind, Word};
 
 /// What a token begins where a declaration stands.
-#[derive(Clone, Copy, PartialEq, Eq, Debug)]
+#[derive(Clone, Copy, PartialEq, Eq)]
 pub enum DeclarationUse {
     Struct,
     Interface,

@@ -5,7 +5,7 @@ use sqlite_items::Items;
 
 /// A shader: the buffer of words, the entry, the entry's one parameter (the number of the invocation), the size
 /// of a group, and what each invocation writes, in order.
-#[derive(Debug, Drop)]
+#[derive(Drop)]
 pub struct Shader {
     pub buffer: Name,
     pub entry: Name,
@@ -15,7 +15,7 @@ pub struct Shader {
 }
 
 /// How many invocations a group has along each axis.
-#[derive(Clone, Copy, PartialEq, Eq, Debug)]
+#[derive(Clone, Copy, PartialEq, Eq)]
 pub struct GroupSize {
     pub x: u32,
     pub y: u32,
@@ -23,21 +23,21 @@ pub struct GroupSize {
 }
 
 /// `BUFFER[index] = value;`
-#[derive(Debug, Drop)]
+#[derive(Drop)]
 pub struct Statement {
     pub index: Sum,
     pub value: Sum,
 }
 
 /// `first + rest.0 + rest.1 ..`, from left to right, modulo 2^32.
-#[derive(Debug, Drop)]
+#[derive(Drop)]
 pub struct Sum {
     pub first: Item,
     pub rest: Items<Item>,
 }
 
 /// What a sum adds.
-#[derive(Clone, Copy, PartialEq, Eq, Debug)]
+#[derive(Clone, Copy, PartialEq, Eq)]
 pub enum Item {
     /// A number that is written out, as `7u`.
     Number(u32),

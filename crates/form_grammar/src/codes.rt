@@ -6,14 +6,14 @@ use slang_names::FormCode;
 use std::alloc::{AllocError, Global};
 
 /// Where reading stopped, and why: so many bytes were left from the refused one on.
-#[derive(Clone, Copy, PartialEq, Eq, Debug)]
+#[derive(Clone, Copy, PartialEq, Eq)]
 pub struct Stop {
     pub code: FormCode,
     pub left: usize,
 }
 
 /// Why one number is not read.
-#[derive(Clone, Copy, PartialEq, Eq, Debug)]
+#[derive(Clone, Copy, PartialEq, Eq)]
 pub enum FieldFault {
     /// The bytes end before the number does.
     Short,
@@ -22,7 +22,7 @@ pub enum FieldFault {
 }
 
 /// Why a part of a form is not read.
-#[derive(Debug, Drop)]
+#[derive(Drop)]
 pub enum ReadFault {
     Memory(AllocError),
     Refused(Stop),

@@ -6,7 +6,7 @@ ghost use Rattle.image_lookup.specs.Sorts.{sort_of, is_value_sort};
 use spirv_words::Op;
 
 /// What kind of thing an instruction defines.
-#[derive(Clone, Copy, PartialEq, Eq, Debug)]
+#[derive(Clone, Copy, PartialEq, Eq)]
 pub enum Sort {
     VoidType,
     BoolType,

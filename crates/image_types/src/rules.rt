@@ -7,7 +7,7 @@ use image_operands::Numbers;
 use spirv_words::Op;
 
 /// What is asked of the types of an instruction.
-#[derive(Clone, Copy, PartialEq, Eq, Debug)]
+#[derive(Clone, Copy, PartialEq, Eq)]
 pub enum Rule {
     /// Nothing.
     Free,

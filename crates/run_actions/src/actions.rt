@@ -4,7 +4,7 @@ use flat_values::{Binary, Unary};
 use sqlite_items::Items;
 
 /// Words that are copied from one place to another.
-#[derive(Clone, Copy, Debug, Drop, PartialEq, Eq)]
+#[derive(Clone, Copy, Drop, PartialEq, Eq)]
 pub struct Move {
     pub from: u32,
     pub to: u32,
@@ -12,7 +12,7 @@ pub struct Move {
 }
 
 /// How many elements an index may choose from: so many, or as many whole ones as the buffer has.
-#[derive(Clone, Copy, Debug, Drop, PartialEq, Eq)]
+#[derive(Clone, Copy, Drop, PartialEq, Eq)]
 pub enum Extent {
     Fixed(u32),
     Whole,
@@ -20,7 +20,7 @@ pub enum Extent {
 
 /// An index of an access chain: the place of its word, what it chooses from, and how far elements are apart in words. An int
 /// below 0 is out of every range.
-#[derive(Clone, Copy, Debug, Drop, PartialEq, Eq)]
+#[derive(Clone, Copy, Drop, PartialEq, Eq)]
 pub struct Index {
     pub slot: u32,
     pub extent: Extent,
@@ -30,7 +30,7 @@ pub struct Index {
 
 /// What an instruction does. Its operands and its result are places of first words; so are the words that a pointer into a
 /// variable consists of. A pointer into a buffer is two words: the buffer's number, and the place in it.
-#[derive(Debug, Drop)]
+#[derive(Drop)]
 pub enum Action {
     /// Goes on.
     Pass,

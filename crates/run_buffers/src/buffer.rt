@@ -3,7 +3,7 @@
 use sqlite_items::Items;
 
 /// The words of one buffer, with its set and its binding.
-#[derive(Debug, Drop)]
+#[derive(Drop)]
 pub struct Buffer {
     pub set: u32,
     pub binding: u32,

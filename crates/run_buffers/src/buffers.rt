@@ -20,7 +20,7 @@ use std::alloc::{AllocError, Global};
 use std::marker::Model;
 
 /// The buffers of a run, ascending by set and binding, with at most 1,048,576 words in all.
-#[derive(Debug, Drop)]
+#[derive(Drop)]
 pub struct Buffers {
     buffers: Vec<Buffer>,
 }

@@ -4,7 +4,7 @@ use slang_names::{Name, RunCause};
 use spirv_words::ImageCode;
 
 /// What a run comes to, unless a read fails or memory is wanting.
-#[derive(Debug, Drop)]
+#[derive(Drop)]
 pub enum RunAnswer {
     /// A file is not there.
     Absent {

@@ -13,7 +13,7 @@ use slang_store::{FileFault, Files, Found};
 use std::alloc::Global;
 
 /// What a file of a run holds: its bytes, or more than such a file may have.
-#[derive(Debug, Drop)]
+#[derive(Drop)]
 pub enum Held {
     Bytes(Vec<u8>),
     TooLong,

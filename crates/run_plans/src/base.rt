@@ -10,7 +10,7 @@ use sqlite_items::Items;
 use std::collections::HashMap;
 
 /// A buffer that an image names: its set and binding, and how many words it needs.
-#[derive(Clone, Copy, PartialEq, Eq, PartialOrd, Ord, Debug)]
+#[derive(Clone, Copy, PartialEq, Eq, PartialOrd, Ord)]
 pub struct Bound {
     pub set: u32,
     pub binding: u32,

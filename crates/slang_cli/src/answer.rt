@@ -4,7 +4,7 @@ use slang_names::Name;
 use slang_outcomes::Outcome;
 
 /// A command is refused, with its line; or it gives a file its bytes, and then prints a line.
-#[derive(Debug, Drop)]
+#[derive(Drop)]
 pub enum Answer {
     Refuses {
         status: Outcome,
@@ -18,7 +18,7 @@ pub enum Answer {
 }
 
 /// Why a command came to no answer: a read failed, or memory was wanting.
-#[derive(Debug, Drop)]
+#[derive(Drop)]
 pub enum Halt {
     Read,
     Memory,

@@ -5,14 +5,14 @@ use slang_names::{Name, Ref, Value};
 use sqlite_items::{Boxed, Items};
 
 /// A body: the types of its locals, which are numbered after the parameters, and its statements.
-#[derive(Debug, Drop)]
+#[derive(Drop)]
 pub struct Body {
     pub locals: Items<TypeTerm>,
     pub statements: Items<Stat>,
 }
 
 /// A statement.
-#[derive(Debug, Drop)]
+#[derive(Drop)]
 pub enum Stat {
     Block(Items<Stat>),
     /// The first value of the local of that number.
@@ -31,7 +31,7 @@ pub enum Stat {
 }
 
 /// Whether a change converts the value that it reads, and converts its result back.
-#[derive(Clone, Copy, PartialEq, Eq, Debug)]
+#[derive(Clone, Copy, PartialEq, Eq)]
 pub struct Conversions {
     pub read: bool,
     pub result: bool,
@@ -39,7 +39,7 @@ pub struct Conversions {
 
 /// An expression.
 #[cycle(expr)]
-#[derive(Debug, Drop)]
+#[derive(Drop)]
 pub enum Expr {
     /// A number in two's complement.
     Int(u32),
@@ -71,7 +71,7 @@ pub enum Expr {
 
 /// Something that can be read, and perhaps written.
 #[cycle(expr)]
-#[derive(Debug, Drop)]
+#[derive(Drop)]
 pub enum PlaceTerm {
     /// The parameter or local of that number.
     Local(u32),
@@ -85,7 +85,7 @@ pub enum PlaceTerm {
 
 /// A call. A receiver is the first that is given.
 #[cycle(expr)]
-#[derive(Debug, Drop)]
+#[derive(Drop)]
 pub enum Call {
     /// Of a declared function, with what its parameters stand for and evidence for their constraints.
     Direct(Ref, Items<Arg>, Items<Evidence>, Items<Given>),
@@ -95,20 +95,20 @@ pub enum Call {
 
 /// What a parameter is given: a value, or a place for one that is copied out.
 #[cycle(expr)]
-#[derive(Debug, Drop)]
+#[derive(Drop)]
 pub enum Given {
     Expr(Expr),
     Place(PlaceTerm),
 }
 
-#[derive(Clone, Copy, PartialEq, Eq, Debug)]
+#[derive(Clone, Copy, PartialEq, Eq)]
 pub enum UnaryOp {
     Negate,
     Complement,
     Not,
 }
 
-#[derive(Clone, Copy, PartialEq, Eq, Debug)]
+#[derive(Clone, Copy, PartialEq, Eq)]
 pub enum BinaryOp {
     Add,
     Subtract,

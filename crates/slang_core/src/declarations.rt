@@ -6,7 +6,7 @@ use sqlite_items::Items;
 
 /// A module: the interfaces that it reaches by imports, by ascending name; its own; and one body for each
 /// function that it declares, in their order.
-#[derive(Debug, Drop)]
+#[derive(Drop)]
 pub struct CoreModule {
     pub reached: Items<Interface>,
     pub own: Interface,
@@ -14,7 +14,7 @@ pub struct CoreModule {
 }
 
 /// What other modules see of a module.
-#[derive(Debug, Drop)]
+#[derive(Drop)]
 pub struct Interface {
     pub name: Name,
     /// Direct imports, ascending.
@@ -24,7 +24,7 @@ pub struct Interface {
 }
 
 /// A declaration. Members follow their struct or extension, with paths such as `S.f`.
-#[derive(Debug, Drop)]
+#[derive(Drop)]
 pub enum Decl {
     Struct(StructDecl),
     Interface(InterfaceDecl),
@@ -35,7 +35,7 @@ pub enum Decl {
     Global(GlobalDecl),
 }
 
-#[derive(Debug, Drop)]
+#[derive(Drop)]
 pub struct StructDecl {
     pub path: Name,
     pub access: Access,
@@ -45,7 +45,7 @@ pub struct StructDecl {
     pub bindings: Items<Bind>,
 }
 
-#[derive(Debug, Drop)]
+#[derive(Drop)]
 pub struct InterfaceDecl {
     pub path: Name,
     pub access: Access,
@@ -53,7 +53,7 @@ pub struct InterfaceDecl {
     pub requirements: Items<Req>,
 }
 
-#[derive(Debug, Drop)]
+#[derive(Drop)]
 pub struct ExtensionDecl {
     /// The struct that is extended.
     pub subject: Ref,
@@ -62,7 +62,7 @@ pub struct ExtensionDecl {
     pub bindings: Items<Bind>,
 }
 
-#[derive(Debug, Drop)]
+#[derive(Drop)]
 pub struct FunctionDecl {
     pub path: Name,
     pub access: Access,
@@ -76,14 +76,14 @@ pub struct FunctionDecl {
     pub entry: Option<Entry>,
 }
 
-#[derive(Debug, Drop)]
+#[derive(Drop)]
 pub struct AliasDecl {
     pub path: Name,
     pub access: Access,
     pub of: TypeTerm,
 }
 
-#[derive(Debug, Drop)]
+#[derive(Drop)]
 pub struct ConstantDecl {
     pub path: Name,
     pub access: Access,
@@ -92,7 +92,7 @@ pub struct ConstantDecl {
     pub bits: u32,
 }
 
-#[derive(Debug, Drop)]
+#[derive(Drop)]
 pub struct GlobalDecl {
     pub path: Name,
     pub access: Access,
@@ -102,13 +102,13 @@ pub struct GlobalDecl {
 }
 
 /// Where a resource is bound.
-#[derive(Clone, Copy, PartialEq, Eq, Debug)]
+#[derive(Clone, Copy, PartialEq, Eq)]
 pub struct Binding {
     pub number: u32,
     pub set: u32,
 }
 
-#[derive(Debug, Drop)]
+#[derive(Drop)]
 pub struct Field {
     pub name: Name,
     pub access: Access,
@@ -116,7 +116,7 @@ pub struct Field {
 }
 
 /// The type that a struct or extension gives an associated type.
-#[derive(Debug, Drop)]
+#[derive(Drop)]
 pub struct Bind {
     pub name: Name,
     pub access: Access,
@@ -124,21 +124,21 @@ pub struct Bind {
 }
 
 /// An associated type, and the interface that bounds it.
-#[derive(Debug, Drop)]
+#[derive(Drop)]
 pub struct Assoc {
     pub name: Name,
     pub bound: Option<Ref>,
 }
 
 /// A parameter of a function.
-#[derive(Debug, Drop)]
+#[derive(Drop)]
 pub struct Par {
     pub mode: Mode,
     pub of: TypeTerm,
 }
 
 /// A function that an interface requires.
-#[derive(Debug, Drop)]
+#[derive(Drop)]
 pub struct Req {
     pub name: Name,
     pub flags: Flags,
@@ -147,14 +147,14 @@ pub struct Req {
 }
 
 /// How a function is a member.
-#[derive(Clone, Copy, PartialEq, Eq, Debug)]
+#[derive(Clone, Copy, PartialEq, Eq)]
 pub struct Flags {
     pub is_static: bool,
     pub is_mutating: bool,
 }
 
 /// The size of a group, in invocations, and what each parameter is given.
-#[derive(Debug, Drop)]
+#[derive(Drop)]
 pub struct Entry {
     pub x: u32,
     pub y: u32,
@@ -163,7 +163,7 @@ pub struct Entry {
 }
 
 /// What an entry's parameter is given.
-#[derive(Clone, Copy, PartialEq, Eq, Debug)]
+#[derive(Clone, Copy, PartialEq, Eq)]
 pub enum BuiltIn {
     GroupId,
     GroupThreadId,
@@ -173,21 +173,21 @@ pub enum BuiltIn {
 
 /// The parameters of a generic declaration, and the interfaces that they are to conform to. The parameters
 /// of a method are its struct's or extension's, then its own.
-#[derive(Debug, Drop)]
+#[derive(Drop)]
 pub struct Params {
     pub list: Items<GenericParam>,
     pub constraints: Items<Constraint>,
 }
 
 /// A type parameter, or a value parameter.
-#[derive(Debug, Drop)]
+#[derive(Drop)]
 pub enum GenericParam {
     Term(Name),
     Fixed(Name),
 }
 
 /// That the parameter of that number conforms to an interface.
-#[derive(Debug, Drop)]
+#[derive(Drop)]
 pub struct Constraint {
     pub parameter: u32,
     pub interface: Ref,
@@ -195,7 +195,7 @@ pub struct Constraint {
 
 /// That a struct conforms to an interface: a type for each associated type, evidence for each bounded one,
 /// and a function for each requirement.
-#[derive(Debug, Drop)]
+#[derive(Drop)]
 pub struct Conf {
     pub interface: Ref,
     pub associated: Items<TypeTerm>,

@@ -5,7 +5,7 @@ use slang_names::{Name, Ref};
 use sqlite_items::{Boxed, Items};
 
 /// Why a type conforms to an interface.
-#[derive(Debug, Drop)]
+#[derive(Drop)]
 pub enum Evidence {
     /// The constraint of that number of the declaration around it says so.
     Constraint(u32),

@@ -4,7 +4,7 @@ use slang_names::{Name, Ref, Value};
 use sqlite_items::{Boxed, Items};
 
 /// What a vector is made of.
-#[derive(Clone, Copy, PartialEq, Eq, Debug)]
+#[derive(Clone, Copy, PartialEq, Eq)]
 pub enum Scalar {
     Int,
     Uint,
@@ -12,7 +12,7 @@ pub enum Scalar {
 
 /// A type. Parameters are numbered as their declaration lists them.
 #[cycle(types)]
-#[derive(Debug, Drop)]
+#[derive(Drop)]
 pub enum TypeTerm {
     Void,
     Bool,
@@ -33,7 +33,7 @@ pub enum TypeTerm {
 
 /// What a parameter of a declaration stands for.
 #[cycle(types)]
-#[derive(Debug, Drop)]
+#[derive(Drop)]
 pub enum Arg {
     Term(TypeTerm),
     Fixed(Value),

@@ -4,14 +4,14 @@ use crate::{ModuleCode, Name, Place, Ref};
 use std::alloc::AllocError;
 
 /// Why a module was not taken: a refusal with its place in the text, or want of memory.
-#[derive(Debug, Drop)]
+#[derive(Drop)]
 pub enum ModuleFault {
     Refused { place: Place, code: ModuleCode },
     Memory(AllocError),
 }
 
 /// What a limit counts.
-#[derive(Clone, Copy, PartialEq, Eq, Debug)]
+#[derive(Clone, Copy, PartialEq, Eq)]
 pub enum Counted {
     /// Instances of a program.
     Instances,
@@ -25,7 +25,7 @@ pub enum Counted {
 
 /// Why modules do not link, in the order in which the causes are tried. A key is the text of an instance
 /// or a type; a parameter is named `module.global`.
-#[derive(Debug, Drop)]
+#[derive(Drop)]
 pub enum LinkCause {
     /// 217: more modules than a link may have.
     ModuleCount {
@@ -95,14 +95,14 @@ pub enum LinkCause {
 }
 
 /// Why modules were not linked: a refusal, or want of memory.
-#[derive(Debug, Drop)]
+#[derive(Drop)]
 pub enum LinkFault {
     Refused(LinkCause),
     Memory(AllocError),
 }
 
 /// Why an image is not run over given buffers.
-#[derive(Clone, Copy, PartialEq, Eq, Debug)]
+#[derive(Clone, Copy, PartialEq, Eq)]
 pub enum RunCause {
     /// 506: the image has no entry of the name.
     NoEntry,

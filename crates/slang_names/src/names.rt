@@ -6,7 +6,7 @@ use std::alloc::{AllocError, Global};
 use std::marker::Model;
 
 /// A name or a path, as its bytes. A contract sees the list.
-#[derive(Debug, Drop)]
+#[derive(Drop)]
 pub struct Name {
     bytes: Vec<u8>,
 }
@@ -57,7 +57,7 @@ impl Name {
 }
 
 /// A declaration: its module, and its path in it, such as `light` and `Lamp.power`.
-#[derive(Debug, Drop)]
+#[derive(Drop)]
 pub struct Ref {
     pub module: Name,
     pub path: Name,

@@ -7,7 +7,7 @@ use spirv_words::ImageCode;
 
 /// What a call of the program came to: one variant for each exit status. Beside `ReadFault`, `WriteFault` and `Memory`
 /// an outcome tells of the words and of what the files hold alone.
-#[derive(Debug, Drop)]
+#[derive(Drop)]
 pub enum Outcome {
     /// 0: the command was carried out.
     Done,

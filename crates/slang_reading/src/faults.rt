@@ -4,7 +4,7 @@ use slang_names::{ModuleCode, Place};
 use std::alloc::AllocError;
 
 /// Why nothing is read.
-#[derive(Debug, Drop)]
+#[derive(Drop)]
 pub enum Fault {
     Memory(AllocError),
     /// No file goes on with the last token that was looked at.

@@ -10,7 +10,7 @@ use std::alloc::{AllocError, Global};
 use thiserror::Error;
 
 /// What a read finds under a name.
-#[derive(Debug, Drop)]
+#[derive(Drop)]
 pub enum Found {
     /// The bytes, at most as many as the limit.
     Bytes(Vec<u8>),

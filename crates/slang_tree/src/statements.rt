@@ -66,7 +66,7 @@ pub struct Local {
 }
 
 /// `++` or `--`.
-#[derive(Clone, Copy, PartialEq, Eq, Debug)]
+#[derive(Clone, Copy, PartialEq, Eq)]
 pub enum Step {
     Increment,
     Decrement,

@@ -5,7 +5,7 @@ ghost use Rattle.std.specs.Prelude.{◌≡◌};
 use std::alloc::AllocError;
 
 /// Why an image is refused.
-#[derive(Clone, Copy, PartialEq, Eq, Debug)]
+#[derive(Clone, Copy, PartialEq, Eq)]
 pub enum ImageCode {
     /// 401: bytes that are no whole words, too few words for a header, or an instruction that goes past the end.
     Short,
@@ -70,7 +70,7 @@ impl ImageCode {
 }
 
 /// Why bytes or words were not read as an image: a refusal with the index of its word, or want of memory.
-#[derive(Debug, Drop)]
+#[derive(Drop)]
 pub enum ImageFault {
     Refused { place: u64, code: ImageCode },
     Memory(AllocError),

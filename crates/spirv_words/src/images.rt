@@ -8,14 +8,14 @@ use sqlite_items::Items;
 
 /// One instruction: its opcode, and the words after its first. The operands are as the SPIR-V specification lists them
 /// for the opcode: the type of the result and the result where it has them, then ids and literal words.
-#[derive(Debug, Drop)]
+#[derive(Drop)]
 pub struct Instruction {
     pub op: Op,
     pub operands: Items<u32>,
 }
 
 /// An image (a SPIR-V module): its instructions in order, whose ids are all below `bound`.
-#[derive(Debug, Drop)]
+#[derive(Drop)]
 pub struct Image {
     pub bound: u32,
     pub instructions: Items<Instruction>,

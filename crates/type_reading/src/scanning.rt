@@ -23,7 +23,7 @@ struct Scan {
 }
 
 /// What came of a token.
-#[derive(Clone, Copy, PartialEq, Eq, Debug)]
+#[derive(Clone, Copy, PartialEq, Eq)]
 enum Next {
     Goes,
     Ended,
