@@ -19,7 +19,7 @@ use std::alloc::{AllocError, Global};
 use type_reading::{Awaited, Open, Step, step_of};
 
 /// An open bracket: of arguments that begin at the token with that index, or of a resource.
-#[derive(Clone, Copy, PartialEq, Eq)]
+#[derive(Clone, Copy)]
 pub(crate) enum Bracket {
     Many(usize),
     One,
@@ -34,7 +34,7 @@ pub(crate) struct Brackets {
 }
 
 /// What came of a token.
-#[derive(Clone, Copy, PartialEq, Eq)]
+#[derive(Clone, Copy)]
 pub(crate) enum Next {
     Goes,
     Ended,

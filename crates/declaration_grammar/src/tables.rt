@@ -7,7 +7,7 @@ use slang_names::{Access, Mode};
 use slang_tokens::{Kind, Word};
 
 /// What a token begins where a declaration stands.
-#[derive(Clone, Copy, PartialEq, Eq)]
+#[derive(Clone, Copy)]
 pub enum DeclarationUse {
     Struct,
     Interface,

@@ -15,7 +15,7 @@ pub struct Shader {
 }
 
 /// How many invocations a group has along each axis.
-#[derive(Clone, Copy, PartialEq, Eq)]
+#[derive(Clone, Copy)]
 pub struct GroupSize {
     pub x: u32,
     pub y: u32,
@@ -37,7 +37,7 @@ pub struct Sum {
 }
 
 /// What a sum adds.
-#[derive(Clone, Copy, PartialEq, Eq)]
+#[derive(Clone, Copy)]
 pub enum Item {
     /// A number that is written out, as `7u`.
     Number(u32),

@@ -9,7 +9,7 @@ use crate::words::{
 };
 
 /// An operator of one operand.
-#[derive(Clone, Copy, Drop, PartialEq, Eq)]
+#[derive(Clone, Copy, Drop)]
 pub enum Unary {
     Negate,
     Not,
@@ -18,7 +18,7 @@ pub enum Unary {
 }
 
 /// An operator of two operands. A comparison gives the word 0 or 1; those of bools are `Equal` and `NotEqual`.
-#[derive(Clone, Copy, Drop, PartialEq, Eq)]
+#[derive(Clone, Copy, Drop)]
 pub enum Binary {
     Add,
     Sub,

@@ -6,14 +6,14 @@ use slang_names::FormCode;
 use std::alloc::{AllocError, Global};
 
 /// Where reading stopped, and why: so many bytes were left from the refused one on.
-#[derive(Clone, Copy, PartialEq, Eq)]
+#[derive(Clone, Copy)]
 pub struct Stop {
     pub code: FormCode,
     pub left: usize,
 }
 
 /// Why one number is not read.
-#[derive(Clone, Copy, PartialEq, Eq)]
+#[derive(Clone, Copy)]
 pub enum FieldFault {
     /// The bytes end before the number does.
     Short,

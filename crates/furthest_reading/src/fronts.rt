@@ -4,7 +4,7 @@ ghost use Rattle.std.specs.Prelude.{◌≡◌};
 ghost use Rattle.furthest_reading.specs.Fronts as spec;
 
 /// What generic arguments that begin at a token come to.
-#[derive(Clone, Copy, PartialEq, Eq)]
+#[derive(Clone, Copy)]
 pub(crate) enum Ahead {
     /// None begin here.
     Nothing,
@@ -15,7 +15,7 @@ pub(crate) enum Ahead {
 }
 
 /// What the tokens so far have shown.
-#[derive(Clone, Copy, PartialEq, Eq)]
+#[derive(Clone, Copy)]
 pub(crate) struct Front {
     /// Where the arguments end that `(` or `.` follows.
     pub given: usize,

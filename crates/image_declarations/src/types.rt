@@ -14,7 +14,7 @@ use std::collections::HashMap;
 
 /// What a type holds: whether it is data (bool, int, uint, or a vector, array or struct of these), whether it has an array
 /// without length at any depth, and the end of its last scalar in a buffer, in bytes.
-#[derive(Clone, Copy, PartialEq, Eq)]
+#[derive(Clone, Copy)]
 pub struct TypeFacts {
     pub is_data: bool,
     pub unbounded: bool,

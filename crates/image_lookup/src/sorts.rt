@@ -6,7 +6,7 @@ ghost use Rattle.image_lookup.specs.Sorts.{sort_of, is_value_sort};
 use spirv_words::Op;
 
 /// What kind of thing an instruction defines.
-#[derive(Clone, Copy, PartialEq, Eq)]
+#[derive(Clone, Copy)]
 pub enum Sort {
     VoidType,
     BoolType,

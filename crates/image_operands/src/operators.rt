@@ -8,7 +8,7 @@ use image_lookup::Sort;
 use spirv_words::Instruction;
 
 /// Which numbers an operator takes.
-#[derive(Clone, Copy, PartialEq, Eq)]
+#[derive(Clone, Copy)]
 pub enum Numbers {
     Either,
     Ints,

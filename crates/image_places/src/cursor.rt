@@ -7,7 +7,7 @@ ghost use Rattle.image_places.specs.Places.{under_function, under_label};
 use spirv_words::{Instruction, Op};
 
 /// Where a walk through an image stands: before the instruction with this number, counted from 0 on, or at the end.
-#[derive(Clone, Copy, PartialEq, Eq)]
+#[derive(Clone, Copy)]
 pub struct Cursor {
     /// How many instructions stand before it.
     pub number: usize,

@@ -7,7 +7,7 @@ ghost use Rattle.image_places.specs.Roles.{first_roles, later_role, goes_on, tex
 use spirv_words::Op;
 
 /// What an operand is (SPIR-V 1.5, section 3.37).
-#[derive(Clone, Copy, PartialEq, Eq)]
+#[derive(Clone, Copy)]
 pub enum Role {
     /// A word that is no id, or a word of a string.
     Literal,

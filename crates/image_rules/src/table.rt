@@ -13,7 +13,7 @@ use std::alloc::{AllocError, Global};
 use std::collections::BTreeMap;
 
 /// How far a definition holds.
-#[derive(Clone, Copy, PartialEq, Eq)]
+#[derive(Clone, Copy)]
 pub enum Scope {
     /// In the whole image.
     Everywhere,
@@ -26,7 +26,7 @@ pub enum Scope {
 }
 
 /// The definition of an id.
-#[derive(Clone, Copy, PartialEq, Eq)]
+#[derive(Clone, Copy)]
 pub struct Definition {
     /// The number of the instruction that defines the id, counted from 0 on.
     pub number: usize,

@@ -10,7 +10,7 @@ use spirv_words::{Instruction, Op};
 
 /// Where an instruction stands: outside of functions, or in one with a type and a result, of which so many parameters have
 /// come.
-#[derive(Clone, Copy, PartialEq, Eq)]
+#[derive(Clone, Copy)]
 pub struct Context {
     pub inside: bool,
     pub result_type: u32,

@@ -7,7 +7,7 @@ use image_operands::Numbers;
 use spirv_words::Op;
 
 /// What is asked of the types of an instruction.
-#[derive(Clone, Copy, PartialEq, Eq)]
+#[derive(Clone, Copy)]
 pub enum Rule {
     /// Nothing.
     Free,

@@ -4,7 +4,7 @@ use flat_values::{Binary, Unary};
 use sqlite_items::Items;
 
 /// Words that are copied from one place to another.
-#[derive(Clone, Copy, Drop, PartialEq, Eq)]
+#[derive(Clone, Copy, Drop)]
 pub struct Move {
     pub from: u32,
     pub to: u32,
@@ -12,7 +12,7 @@ pub struct Move {
 }
 
 /// How many elements an index may choose from: so many, or as many whole ones as the buffer has.
-#[derive(Clone, Copy, Drop, PartialEq, Eq)]
+#[derive(Clone, Copy, Drop)]
 pub enum Extent {
     Fixed(u32),
     Whole,
@@ -20,7 +20,7 @@ pub enum Extent {
 
 /// An index of an access chain: the place of its word, what it chooses from, and how far elements are apart in words. An int
 /// below 0 is out of every range.
-#[derive(Clone, Copy, Drop, PartialEq, Eq)]
+#[derive(Clone, Copy, Drop)]
 pub struct Index {
     pub slot: u32,
     pub extent: Extent,

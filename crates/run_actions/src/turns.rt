@@ -1,7 +1,7 @@
 // What a step does.
 
 /// What a step does, beside what it leaves in the words.
-#[derive(Clone, Copy, Drop, PartialEq, Eq)]
+#[derive(Clone, Copy, Drop)]
 pub enum Turn {
     /// It goes on at this place.
     Going { place: usize },
@@ -16,7 +16,7 @@ pub enum Turn {
 }
 
 /// Where the indices of an access chain lead.
-#[derive(Clone, Copy, Drop, PartialEq, Eq)]
+#[derive(Clone, Copy, Drop)]
 pub enum Followed {
     To(u32),
     /// Out of a range.

@@ -2,7 +2,7 @@
 
 /// The built-in values of an invocation (SPIR-V 1.5, section 3.21): WorkgroupId, LocalInvocationId,
 /// GlobalInvocationId, each with x, y and z, and LocalInvocationIndex.
-#[derive(Clone, Copy, PartialEq, Eq)]
+#[derive(Clone, Copy)]
 pub struct Ids {
     pub group: [u32; 3],
     pub local: [u32; 3],

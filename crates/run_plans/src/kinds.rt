@@ -7,7 +7,7 @@ use flat_values::{Binary, Unary};
 use spirv_words::Op;
 
 /// What an instruction does, as far as its opcode tells.
-#[derive(Clone, Copy, PartialEq, Eq)]
+#[derive(Clone, Copy)]
 pub enum Kind {
     /// Goes on.
     Pass,

@@ -16,7 +16,7 @@ use image_lookup::Sort;
 use std::alloc::AllocError;
 
 /// A part: its type, and the place of its first word behind that of the whole.
-#[derive(Clone, Copy, PartialEq, Eq)]
+#[derive(Clone, Copy)]
 pub struct Part {
     pub type_id: u32,
     pub place: u32,

@@ -19,7 +19,7 @@ use run_actions::{Extent, Index};
 use std::alloc::AllocError;
 
 /// What an index of a chain does: it leads to a member at a known distance, or to an element that its word chooses.
-#[derive(Clone, Copy, PartialEq, Eq)]
+#[derive(Clone, Copy)]
 pub enum Step {
     Member { offset: u32, type_id: u32 },
     Element { index: Index, type_id: u32 },

@@ -8,7 +8,7 @@ use std::alloc::{AllocError, Global};
 
 /// Where the words of a function stand: its variables, then the two words of its call, then the values that it computes. The
 /// built-in values stand before the variables that are outside of functions.
-#[derive(Clone, Copy, PartialEq, Eq)]
+#[derive(Clone, Copy)]
 pub struct Part {
     pub begin: u32,
     pub rooms: u32,

@@ -17,14 +17,14 @@ use std::alloc::{AllocError, Global};
 use std::collections::HashMap;
 
 /// How many words the values of a type take, and the number that its null is, if it is one.
-#[derive(Clone, Copy, PartialEq, Eq)]
+#[derive(Clone, Copy)]
 pub struct TypeWords {
     pub words: u64,
     pub null: Option<u32>,
 }
 
 /// What a declaration makes of its result's id: a type, a value with its number if it is one, or nothing that a run knows.
-#[derive(Clone, Copy, PartialEq, Eq)]
+#[derive(Clone, Copy)]
 pub enum Declared {
     AType(TypeWords),
     AValue(Option<u32>),

@@ -31,7 +31,7 @@ pub enum Stat {
 }
 
 /// Whether a change converts the value that it reads, and converts its result back.
-#[derive(Clone, Copy, PartialEq, Eq)]
+#[derive(Clone, Copy)]
 pub struct Conversions {
     pub read: bool,
     pub result: bool,
@@ -101,14 +101,14 @@ pub enum Given {
     Place(PlaceTerm),
 }
 
-#[derive(Clone, Copy, PartialEq, Eq)]
+#[derive(Clone, Copy)]
 pub enum UnaryOp {
     Negate,
     Complement,
     Not,
 }
 
-#[derive(Clone, Copy, PartialEq, Eq)]
+#[derive(Clone, Copy)]
 pub enum BinaryOp {
     Add,
     Subtract,

@@ -102,7 +102,7 @@ pub struct GlobalDecl {
 }
 
 /// Where a resource is bound.
-#[derive(Clone, Copy, PartialEq, Eq)]
+#[derive(Clone, Copy)]
 pub struct Binding {
     pub number: u32,
     pub set: u32,
@@ -147,7 +147,7 @@ pub struct Req {
 }
 
 /// How a function is a member.
-#[derive(Clone, Copy, PartialEq, Eq)]
+#[derive(Clone, Copy)]
 pub struct Flags {
     pub is_static: bool,
     pub is_mutating: bool,
@@ -163,7 +163,7 @@ pub struct Entry {
 }
 
 /// What an entry's parameter is given.
-#[derive(Clone, Copy, PartialEq, Eq)]
+#[derive(Clone, Copy)]
 pub enum BuiltIn {
     GroupId,
     GroupThreadId,

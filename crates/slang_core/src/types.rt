@@ -4,7 +4,7 @@ use slang_names::{Name, Ref, Value};
 use sqlite_items::{Boxed, Items};
 
 /// What a vector is made of.
-#[derive(Clone, Copy, PartialEq, Eq)]
+#[derive(Clone, Copy)]
 pub enum Scalar {
     Int,
     Uint,

@@ -4,7 +4,7 @@ ghost use Rattle.std.specs.Prelude.{◌≡◌};
 ghost use Rattle.slang_names.specs.Codes.{code_number, code_name};
 
 /// Why a module is refused.
-#[derive(Clone, Copy, PartialEq, Eq)]
+#[derive(Clone, Copy)]
 pub enum ModuleCode {
     /// 101: a byte that begins no token.
     BadByte,

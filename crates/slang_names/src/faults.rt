@@ -11,7 +11,7 @@ pub enum ModuleFault {
 }
 
 /// What a limit counts.
-#[derive(Clone, Copy, PartialEq, Eq)]
+#[derive(Clone, Copy)]
 pub enum Counted {
     /// Instances of a program.
     Instances,
@@ -102,7 +102,7 @@ pub enum LinkFault {
 }
 
 /// Why an image is not run over given buffers.
-#[derive(Clone, Copy, PartialEq, Eq)]
+#[derive(Clone, Copy)]
 pub enum RunCause {
     /// 506: the image has no entry of the name.
     NoEntry,

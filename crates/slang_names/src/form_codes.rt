@@ -4,7 +4,7 @@ ghost use Rattle.std.specs.Prelude.{◌≡◌};
 ghost use Rattle.slang_names.specs.FormCodes.{form_number, form_name};
 
 /// Why a stored module is refused.
-#[derive(Clone, Copy, PartialEq, Eq)]
+#[derive(Clone, Copy, Debug)]
 pub enum FormCode {
     /// 301: the bytes end before the module does.
     Short,

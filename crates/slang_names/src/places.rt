@@ -1,14 +1,14 @@
 // Where a node lies in a text, and the small marks that declarations carry.
 
 /// A part of a text, in bytes: from `start` to before `end`. An empty part has `start` equal to `end`.
-#[derive(Clone, Copy, PartialEq, Eq)]
+#[derive(Clone, Copy)]
 pub struct Place {
     pub start: u32,
     pub end: u32,
 }
 
 /// Who may use a declaration: everybody, its own module, or its own struct or extension declaration.
-#[derive(Clone, Copy, PartialEq, Eq)]
+#[derive(Clone, Copy)]
 pub enum Access {
     Public,
     Internal,
@@ -16,7 +16,7 @@ pub enum Access {
 }
 
 /// How a parameter is passed: copied in, copied out, or both.
-#[derive(Clone, Copy, PartialEq, Eq)]
+#[derive(Clone, Copy)]
 pub enum Mode {
     In,
     Out,
@@ -24,7 +24,7 @@ pub enum Mode {
 }
 
 /// A number in a type: written out, or the value parameter of that number.
-#[derive(Clone, Copy, PartialEq, Eq)]
+#[derive(Clone, Copy)]
 pub enum Value {
     Number(u32),
     Parameter(u32),

@@ -4,7 +4,7 @@ ghost use Rattle.std.specs.Prelude.{◌≡◌, ◌≤◌, length};
 ghost use Rattle.slang_tokens.specs.Bytes as spec;
 
 /// Bytes that go on a lexeme.
-#[derive(Clone, Copy, PartialEq, Eq)]
+#[derive(Clone, Copy)]
 pub enum Set {
     /// Letters, digits and `_`.
     Word,
@@ -19,7 +19,7 @@ pub enum Set {
 }
 
 /// To which base a number is written.
-#[derive(Clone, Copy, PartialEq, Eq)]
+#[derive(Clone, Copy)]
 pub enum Radix {
     Decimal,
     Hexadecimal,

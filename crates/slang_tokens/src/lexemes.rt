@@ -11,7 +11,7 @@ use crate::words::word;
 use slang_names::ModuleCode;
 
 /// What the bytes of a lexeme are. A text is cut into the longest lexemes; a refused one ends it.
-#[derive(Clone, Copy, PartialEq, Eq)]
+#[derive(Clone, Copy)]
 pub enum Lexeme {
     /// A blank byte or a comment.
     Blank,

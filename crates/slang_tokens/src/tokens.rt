@@ -3,7 +3,7 @@
 use slang_names::{Number, Place};
 
 /// The marks. `>` is always a mark by itself: `>>`, `>=` and `>>=` are marks that stand directly behind each other.
-#[derive(Clone, Copy, PartialEq, Eq)]
+#[derive(Clone, Copy)]
 pub enum Mark {
     /// `{`
     OpenBrace,
@@ -92,7 +92,7 @@ pub enum Mark {
 }
 
 /// The words of the language that have a use in a text.
-#[derive(Clone, Copy, PartialEq, Eq)]
+#[derive(Clone, Copy)]
 pub enum Word {
     /// `associatedtype`
     AssociatedType,
@@ -184,7 +184,7 @@ pub enum Word {
 
 /// What a token is. The bytes of a name or a string are those of the text at the token's place; a string's quotes
 /// are part of its place.
-#[derive(Clone, Copy, PartialEq, Eq)]
+#[derive(Clone, Copy)]
 pub enum Kind {
     Name,
     Word(Word),
@@ -194,7 +194,7 @@ pub enum Kind {
 }
 
 /// A token and where it lies in its text.
-#[derive(Clone, Copy, PartialEq, Eq)]
+#[derive(Clone, Copy)]
 pub struct Token {
     pub kind: Kind,
     pub place: Place,

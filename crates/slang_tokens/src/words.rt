@@ -9,7 +9,7 @@ use crate::tokens::Kind;
 use slang_names::ModuleCode;
 
 /// How many components a type has, by what stands behind the name of its scalar.
-#[derive(Clone, Copy, PartialEq, Eq)]
+#[derive(Clone, Copy)]
 pub enum Shape {
     Scalar,
     Vector,

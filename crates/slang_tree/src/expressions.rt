@@ -5,7 +5,7 @@ use slang_names::{Number, Place};
 use sqlite_items::{Boxed, Items};
 
 /// The operators before an operand.
-#[derive(Clone, Copy, PartialEq, Eq)]
+#[derive(Clone, Copy)]
 pub enum UnaryOperator {
     /// `-`
     Minus,
@@ -18,7 +18,7 @@ pub enum UnaryOperator {
 }
 
 /// The operators between two operands, loosest first.
-#[derive(Clone, Copy, PartialEq, Eq)]
+#[derive(Clone, Copy)]
 pub enum BinaryOperator {
     /// `||`
     Or,

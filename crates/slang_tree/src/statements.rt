@@ -66,7 +66,7 @@ pub struct Local {
 }
 
 /// `++` or `--`.
-#[derive(Clone, Copy, PartialEq, Eq)]
+#[derive(Clone, Copy)]
 pub enum Step {
     Increment,
     Decrement,

@@ -11,7 +11,7 @@ pub struct Identifier {
 }
 
 /// The types that have a word of their own. Expressions convert to them and make their values by that word.
-#[derive(Clone, Copy, PartialEq, Eq)]
+#[derive(Clone, Copy)]
 pub enum Builtin {
     Void,
     Bool,
@@ -26,7 +26,7 @@ pub enum Builtin {
 }
 
 /// The kinds of resources.
-#[derive(Clone, Copy, PartialEq, Eq)]
+#[derive(Clone, Copy)]
 pub enum Resource {
     StructuredBuffer,
     RwStructuredBuffer,

@@ -10,7 +10,7 @@ use spirv_words::{Image, ImageCode};
 use std::alloc::{AllocError, Global};
 
 /// A broken rule, and the place in words at which it is broken.
-#[derive(Clone, Copy, PartialEq, Eq)]
+#[derive(Clone, Copy)]
 pub struct Fault {
     pub place: usize,
     pub code: ImageCode,

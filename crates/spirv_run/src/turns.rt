@@ -1,7 +1,7 @@
 // What a step gives.
 
 /// Whether an invocation goes on after a step.
-#[derive(Clone, Copy, PartialEq, Eq)]
+#[derive(Clone, Copy)]
 pub enum Turn {
     Going,
     Ended,

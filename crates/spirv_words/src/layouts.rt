@@ -8,7 +8,7 @@ ghost use Rattle.spirv_words.specs.Misfits.{ending_of, layout_of, meets, unless,
 use crate::Op;
 
 /// The operands of an opcode, as far as their number and strings go.
-#[derive(Clone, Copy, PartialEq, Eq)]
+#[derive(Clone, Copy)]
 pub enum Layout {
     /// So many.
     Exactly(usize),
@@ -23,7 +23,7 @@ pub enum Layout {
 }
 
 /// How a word of a string goes on.
-#[derive(Clone, Copy, PartialEq, Eq)]
+#[derive(Clone, Copy)]
 pub enum Ending {
     /// Four bytes that are not 0.
     GoesOn,

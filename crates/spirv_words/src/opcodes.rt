@@ -4,7 +4,7 @@ ghost use Rattle.std.specs.Prelude.{◌≡◌, ◌≢◌, IfSome, IfNone};
 ghost use Rattle.spirv_words.specs.Opcodes.{op_number};
 
 /// An opcode.
-#[derive(Clone, Copy, PartialEq, Eq)]
+#[derive(Clone, Copy)]
 pub enum Op {
     Name,
     MemoryModel,

@@ -5,7 +5,7 @@ ghost use Rattle.slang_tokens.specs.Tables.{entry_of};
 ghost use Rattle.statement_grammar.specs.AttributeTables as tables;
 
 /// The attributes that are taken.
-#[derive(Clone, Copy, PartialEq, Eq)]
+#[derive(Clone, Copy)]
 pub enum KnownAttribute {
     /// `[shader("compute")]`
     Shader,
@@ -22,7 +22,7 @@ pub enum KnownAttribute {
 }
 
 /// What attributes may stand before.
-#[derive(Clone, Copy, PartialEq, Eq)]
+#[derive(Clone, Copy)]
 pub enum Target {
     /// A `for` or a `while`.
     Loop,

@@ -7,7 +7,7 @@ use slang_tokens::{Kind, Mark, Word};
 use slang_tree::{BinaryOperator, Step};
 
 /// What a mark does behind the place of a change.
-#[derive(Clone, Copy, PartialEq, Eq)]
+#[derive(Clone, Copy)]
 pub enum ChangeUse {
     /// `=`
     Assign,
@@ -22,7 +22,7 @@ pub enum ChangeUse {
 }
 
 /// What a token begins where a statement stands.
-#[derive(Clone, Copy, PartialEq, Eq)]
+#[derive(Clone, Copy)]
 pub enum StatementUse {
     /// `{`
     Block,

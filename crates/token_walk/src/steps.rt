@@ -8,7 +8,7 @@ use slang_names::Place;
 use slang_tokens::{Kind, Mark, Word};
 
 /// Where the walk goes on behind a bracket that closes.
-#[derive(Clone, Copy, PartialEq, Eq)]
+#[derive(Clone, Copy)]
 pub enum After {
     /// Behind an operand.
     Value,
@@ -19,7 +19,7 @@ pub enum After {
 }
 
 /// What is open around a token.
-#[derive(Clone, Copy, PartialEq, Eq)]
+#[derive(Clone, Copy)]
 pub enum Frame {
     /// The whole text.
     File,
@@ -56,7 +56,7 @@ pub enum Frame {
 }
 
 /// What may stand at a token.
-#[derive(Clone, Copy, PartialEq, Eq)]
+#[derive(Clone, Copy)]
 pub enum Mode {
     /// A declaration, or what goes on in one.
     Items,
@@ -103,7 +103,7 @@ pub enum Mode {
 }
 
 /// What a token does.
-#[derive(Clone, Copy, PartialEq, Eq)]
+#[derive(Clone, Copy)]
 pub enum Act {
     /// The walk goes on so.
     Keep(Mode),

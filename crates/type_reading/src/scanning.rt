@@ -23,7 +23,7 @@ struct Scan {
 }
 
 /// What came of a token.
-#[derive(Clone, Copy, PartialEq, Eq)]
+#[derive(Clone, Copy)]
 enum Next {
     Goes,
     Ended,

@@ -12,14 +12,14 @@ use slang_reading::is_mark;
 use slang_tokens::{Kind, Mark, Word};
 
 /// An open bracket: of arguments, or of a resource, which has one type.
-#[derive(Clone, Copy, PartialEq, Eq)]
+#[derive(Clone, Copy)]
 pub enum Open {
     Many,
     One,
 }
 
 /// What the next token has to be.
-#[derive(Clone, Copy, PartialEq, Eq)]
+#[derive(Clone, Copy)]
 pub enum Awaited {
     /// `<` behind a name.
     Begins,
@@ -50,7 +50,7 @@ pub enum Awaited {
 }
 
 /// What a token does to the open brackets, and what is awaited then.
-#[derive(Clone, Copy, PartialEq, Eq)]
+#[derive(Clone, Copy)]
 pub enum Step {
     Keep(Awaited),
     Push(Open, Awaited),
