@@ -9,7 +9,7 @@ ghost use Rattle.statement_grammar.specs.StatementsDescent as spec;
 ghost use Rattle.type_reading.specs.Limited.{limits_of};
 
 use slang_names::{ModuleCode, Place};
-use slang_reading::{Fault, Tokens};
+use slang_reading::{Fault, Tokens, span};
 use slang_tokens::Mark;
 use slang_tree::{DeclaredName, Term};
 use sqlite_items::Items;
@@ -70,6 +70,7 @@ pub fn declared_name(
     let (list, last) = lengths(alloc, limits, tokens, place)?;
     Ok((
         DeclaredName {
+            place: span(place, last),
             name: id,
             lengths: list,
         },

@@ -100,8 +100,8 @@ module _ (limits : Limits) (d e : ℕ) (h : (roomy limits).turns + 5 + d < e) wh
   unfolding field_rest
   ready_field F x = ready_bind F Unlengthened [] (mark m.Semicolon ∷ []) (turns (sees m.OpenBracket) (length_more limits) limits.turns ([], x.1.place)) (turns (sees m.OpenBracket) (length_more large) large.turns ([], x.1.place)) _ _ (λ rest f. refl)
       (ready_turns Unlengthened Any (sees m.OpenBracket) (length_more limits) (length_more large) limits.turns large.turns ([], x.1.place) (omega arith) (λ y c. tt) (λ y c. c) (viable_length_more limits))
-      (λ lengths. ready_bind F Fielded [] (mark m.Semicolon ∷ []) (turns (sees m.Comma) (field_more limits d) limits.turns (declared x.1 lengths.0 ∷ [])) (turns (sees m.Comma) (field_more large e) large.turns (declared x.1 lengths.0 ∷ [])) _ _ (λ rest f. (refl, refl))
-      (ready_turns Fielded Unlengthened (sees m.Comma) (field_more limits d) (field_more large e) limits.turns large.turns (declared x.1 lengths.0 ∷ []) (omega arith) (λ y c. c.0) (λ y c. c.1) viable_field_more)
+      (λ lengths. ready_bind F Fielded [] (mark m.Semicolon ∷ []) (turns (sees m.Comma) (field_more limits d) limits.turns (declared x.1 lengths.0 lengths.1 ∷ [])) (turns (sees m.Comma) (field_more large e) large.turns (declared x.1 lengths.0 lengths.1 ∷ [])) _ _ (λ rest f. (refl, refl))
+      (ready_turns Fielded Unlengthened (sees m.Comma) (field_more limits d) (field_more large e) limits.turns large.turns (declared x.1 lengths.0 lengths.1 ∷ []) (omega arith) (λ y c. c.0) (λ y c. c.1) viable_field_more)
       (λ list. ready_last F (mark m.Semicolon ∷ []) (expect m.Semicolon) (expect m.Semicolon) (λ end. field_of (span x.0.place end) x.0 list) (ready_expect F m.Semicolon)))
 
   -- ---- members of extensions and of structs in structs

@@ -157,12 +157,12 @@ module _ (ts : List Lexed) (limits : Limits) where
     fields_front (t.more {x = x} s v r) = longer x (fields_front r)
 
     -- the name of the first field
-    pub first_name : (id : Identifier) (list : List Term) {all : List DeclaredName} {from to : ℕ} → MoreFieldsAt ts (declared id list ∷ []) all from to → Fit (λ count. in_each count count.of_name all) → Fit (λ count. count.of_identifier id)
-    first_name id list r w =
-        let one = one_keeps (λ count. count.of_name) [] (declared id list) (fields_front r) w in
+    pub first_name : (id : Identifier) (list : List Term) (end : Place) {all : List DeclaredName} {from to : ℕ} → MoreFieldsAt ts (declared id list end ∷ []) all from to → Fit (λ count. in_each count count.of_name all) → Fit (λ count. count.of_identifier id)
+    first_name id list end r w =
+        let one = one_keeps (λ count. count.of_name) [] (declared id list end) (fields_front r) w in
         let none : 0 ≤ nodes = omega arith in
         let short : 0 ≤ limits.items = omega arith in
-        record { depth = none; long = short; short = name_short limits nodes id list one }
+        record { depth = none; long = short; short = name_short limits nodes id list end one }
 
     reads_more_fields : {xs ys : List DeclaredName} {from to : ℕ} → MoreFieldsAt ts xs ys from to → IsNot ts m.Comma to → (count seen : ℕ) → Left ts count from → Fit (λ count. in_each count count.of_name ys) → Reads ⊥ (turns (sees m.Comma) (field_more limits nodes) count xs) ts from seen ys to
     unfolding field_more
@@ -181,8 +181,8 @@ module _ (ts : List Lexed) (limits : Limits) where
     unfolding field_rest
     reads_field tree {id = id} {all = all} {end = end} {from = from} {at = at} r seen w =
         let a = field_of (span tree.place end) tree all in
-        let one = one_keeps (λ count. count.of_name) [] (declared id r.list) (fields_front r.names) w in
-        reads_bind ⊥ ts (turns (sees m.OpenBracket) (length_more limits) limits.turns ([], id.place)) _ from seen r.mid (at + 1) (r.list, r.last) a (lengths_read ts limits r.lengths limits.turns seen (left_all u from) (lengths_short limits nodes id r.list one))
-        (λ s1. reads_bind ⊥ ts (turns (sees m.Comma) (field_more limits nodes) limits.turns (declared id r.list ∷ [])) _ r.mid s1 at (at + 1) all a
+        let one = one_keeps (λ count. count.of_name) [] (declared id r.list r.last) (fields_front r.names) w in
+        reads_bind ⊥ ts (turns (sees m.OpenBracket) (length_more limits) limits.turns ([], id.place)) _ from seen r.mid (at + 1) (r.list, r.last) a (lengths_read ts limits r.lengths limits.turns seen (left_all u from) (lengths_short limits nodes id r.list r.last one))
+        (λ s1. reads_bind ⊥ ts (turns (sees m.Comma) (field_more limits nodes) limits.turns (declared id r.list r.last ∷ [])) _ r.mid s1 at (at + 1) all a
         (reads_more_fields r.names (not_there ts m.Comma at (k.Mark m.Semicolon) end r.closes refl) limits.turns s1 (left_all u r.mid) w)
         (λ s2. reads_bind ⊥ ts (expect m.Semicolon) _ at s2 (at + 1) (at + 1) end a (reads_expect ⊥ ts m.Semicolon end at s2 r.closes) (λ s3. reads_pure ⊥ ts a (at + 1) s3)))

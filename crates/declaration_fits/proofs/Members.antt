@@ -93,7 +93,7 @@ module _ (ts : List Lexed) (limits : Limits) (nodes : ℕ) (u : Enough ts limits
       let rest : FieldRestAt (Unit {0}) tt ts limits nodes id all end (mid + 1) at = record { list = lengths; last = last; mid = next_; lengths = q; names = z1; closes = z } in
       let o = first (drop (mid + 1) ts) in
       let goes = field_goes_on (Unit {0}) tt ts limits nodes rest in
-      reads_typed ts limits nodes u (λ x. inner_as limits nodes true list x (use_of x)) (inner_typed limits nodes true list) (i.Field x) to r v (left _ _ f) (first_name ts limits nodes u id lengths z1 (right _ _ f)) (ap (inner_as limits nodes true list (first (drop from ts))) (begun_use (type_begun r)))
+      reads_typed ts limits nodes u (λ x. inner_as limits nodes true list x (use_of x)) (inner_typed limits nodes true list) (i.Field x) to r v (left _ _ f) (first_name ts limits nodes u id lengths last z1 (right _ _ f)) (ap (inner_as limits nodes true list (first (drop from ts))) (begun_use (type_begun r)))
       (λ s1. reads_shown ts limits i.Field (field_rest limits nodes (tree, id)) (λ o. inner_typed_by limits nodes true list (tree, id) (begins_parameters o) (goes_on_field limits nodes o)) x to target.Other list m
       (ap (λ b. inner_typed_by limits nodes true list (tree, id) b (goes_on_field limits nodes o)) goes.0 ∙ ap (inner_typed_by limits nodes true list (tree, id) false) goes.1)
       (λ s2. reads_field ts limits nodes u tree rest s2 (right _ _ f)) s1) seen
@@ -176,7 +176,7 @@ module _ (ts : List Lexed) (limits : Limits) (nodes : ℕ) (u : Enough ts limits
   reads_member_node {from = from} {to = to} (t.field {x = x} (t.field {mid = mid} {next = next_} {at = at} {last = last} {end = end} {t = tree} {all = all} r (st.declared_name {id = id} {list = lengths} v q) z1 z)) list seen m f obeyed =
       let rest : FieldRestAt (Unit {0}) tt ts limits nodes id all end (mid + 1) at = record { list = lengths; last = last; mid = next_; lengths = q; names = z1; closes = z } in
       let goes = field_goes_on (Unit {0}) tt ts limits nodes rest in
-      reads_typed ts limits nodes u (λ x. member_as limits nodes list x (use_of x)) (member_typed limits nodes list) (n.Field x) to r v (left _ _ f) (first_name ts limits nodes u id lengths z1 (right _ _ f)) (ap (member_as limits nodes list (first (drop from ts))) (begun_use (type_begun r)))
+      reads_typed ts limits nodes u (λ x. member_as limits nodes list x (use_of x)) (member_typed limits nodes list) (n.Field x) to r v (left _ _ f) (first_name ts limits nodes u id lengths last z1 (right _ _ f)) (ap (member_as limits nodes list (first (drop from ts))) (begun_use (type_begun r)))
       (λ s1. reads_shown ts limits n.Field (field_rest limits nodes (tree, id)) (λ o. member_typed_by limits nodes list (tree, id) (begins_parameters o) (goes_on_field limits nodes o)) x to target.Other list m
       (ap (λ b. member_typed_by limits nodes list (tree, id) b (goes_on_field limits nodes (first (drop (mid + 1) ts)))) goes.0 ∙ ap (member_typed_by limits nodes list (tree, id) false) goes.1)
       (λ s2. reads_field ts limits nodes u tree rest s2 (right _ _ f)) s1) seen

@@ -142,9 +142,9 @@ module _ (ts : List Lexed) (limits : Limits) (nodes : ℕ) (he : (d at seen : �
   unfolding field_rest IsTypeName IsFieldMore
   post_field x at mid seen h = post_bind ts (λ c to. LengthsAt ts [] c.0 x.1.place c.1 mid to) (λ f to. FieldAt ts f at to) (turns (sees m.OpenBracket) (length_more limits) limits.turns ([], x.1.place)) _ mid seen
       (post_lengths ts limits limits.turns ([], x.1.place) mid seen)
-      (λ l a1 s1 lr. post_bind ts (λ all to. MoreFieldsAt ts (declared x.1 l.0 ∷ []) all a1 to) (λ f to. FieldAt ts f at to) (turns (sees m.Comma) (field_more limits nodes) limits.turns (declared x.1 l.0 ∷ [])) _ a1 s1
+      (λ l a1 s1 lr. post_bind ts (λ all to. MoreFieldsAt ts (declared x.1 l.0 l.1 ∷ []) all a1 to) (λ f to. FieldAt ts f at to) (turns (sees m.Comma) (field_more limits nodes) limits.turns (declared x.1 l.0 l.1 ∷ [])) _ a1 s1
       (post_turns ts (λ a b from to. MoreFieldsAt ts a b from to) IsFieldMore (sees m.Comma) (field_more limits nodes) (λ a at. t.end)
-      (λ a b c from mid to i q. t.more i.3 i.4 (subst (λ list. MoreFieldsAt ts list c mid to) i.5 q)) (λ a from s2 e. post_field_more a from s2) limits.turns (declared x.1 l.0 ∷ []) a1 s1)
+      (λ a b c from mid to i q. t.more i.3 i.4 (subst (λ list. MoreFieldsAt ts list c mid to) i.5 q)) (λ a from s2 e. post_field_more a from s2) limits.turns (declared x.1 l.0 l.1 ∷ []) a1 s1)
       (λ all a2 s2 q. post_bind ts (IsMarkAt ts m.Semicolon a2) (λ f to. FieldAt ts f at to) (expect m.Semicolon) _ a2 s2 (post_expect ts m.Semicolon a2 s2)
       (λ end to s3 z. subst (λ n. FieldAt ts (field_of (span x.0.place end) x.0 all) at n) (sym z.1)
       (t.field h.1 (s.declared_name h.2 (subst (λ n. LengthsAt ts [] l.0 x.1.place l.1 n a1) h.3 lr)) q z.0))))

@@ -112,7 +112,7 @@ module _ (limits : Limits) (nodes : ℕ) where
   unfoldable pub field_rest : TypeName → Parser Field
   field_rest x = do
     lengths ← turns (sees m.OpenBracket) (length_more limits) limits.turns ([], x.1.place)
-    list ← turns (sees m.Comma) field_more limits.turns (declared x.1 lengths.0 ∷ [])
+    list ← turns (sees m.Comma) field_more limits.turns (declared x.1 lengths.0 lengths.1 ∷ [])
     end ← expect m.Semicolon
     pure (field_of (span x.0.place end) x.0 list)
 

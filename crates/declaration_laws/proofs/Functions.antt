@@ -178,7 +178,7 @@ module _ (E : Type 0) (e : E) (ts : List Lexed) (limits : Limits) where
       pub last : Place
       pub mid : ℕ
       pub lengths : LengthsAt ts [] list id.place last from mid
-      pub names : MoreFieldsAt ts (declared id list ∷ []) all mid at
+      pub names : MoreFieldsAt ts (declared id list last ∷ []) all mid at
       pub closes : Stands ts at (k.Mark m.Semicolon) end
 
     pub reads_field : (tree : TypeTree) {id : Identifier} {all : List DeclaredName} {end : Place} {from at : ℕ} → FieldRestAt id all end from at → (seen : ℕ) →
@@ -186,7 +186,7 @@ module _ (E : Type 0) (e : E) (ts : List Lexed) (limits : Limits) where
     unfolding field_rest
     reads_field tree {id = id} {all = all} {end = end} {from = from} {at = at} r seen = let a = field_of (span tree.place end) tree all in
         reads_bind E ts (turns (sees m.OpenBracket) (length_more limits) limits.turns ([], id.place)) _ from seen r.mid (at + 1) (r.list, r.last) a (reads_lengths E e ts limits r.lengths limits.turns seen)
-        (λ s1. reads_bind E ts (turns (sees m.Comma) (field_more limits nodes) limits.turns (declared id r.list ∷ [])) _ r.mid s1 at (at + 1) all a
+        (λ s1. reads_bind E ts (turns (sees m.Comma) (field_more limits nodes) limits.turns (declared id r.list r.last ∷ [])) _ r.mid s1 at (at + 1) all a
         (reads_more_fields r.names (not_there ts m.Comma at (k.Mark m.Semicolon) end r.closes refl) limits.turns s1)
         (λ s2. reads_bind E ts (expect m.Semicolon) _ at s2 (at + 1) (at + 1) end a (reads_expect E ts m.Semicolon end at s2 r.closes) (λ s3. reads_pure E ts a (at + 1) s3)))
 

@@ -151,6 +151,6 @@ module _ (ts : List Lexed) (limits : Limits) (free : limits.free ≡ false) (lon
   tells_field tree {id = id} {all = all} {end = end} {from = from} {at = at} r seen =
       let a = field_of (span tree.place end) tree all in
       tells_bind ts (turns (sees m.OpenBracket) (length_more limits) limits.turns ([], id.place)) _ from seen r.mid (at + 1) (r.list, r.last) a (tells_lengths r.lengths limits.turns seen (all_left ts limits free long from))
-      (λ s1. tells_last ts (turns (sees m.Comma) (field_more limits nodes) limits.turns (declared id r.list ∷ [])) _ r.mid s1 at (at + 1) all a
+      (λ s1. tells_last ts (turns (sees m.Comma) (field_more limits nodes) limits.turns (declared id r.list r.last ∷ [])) _ r.mid s1 at (at + 1) all a
       (tells_more_fields r.names (not_there ts m.Comma at (k.Mark m.Semicolon) end r.closes refl) limits.turns s1 (all_left ts limits free long r.mid))
       (λ s2. reads_bind ⊥ ts (expect m.Semicolon) _ at s2 (at + 1) (at + 1) end a (reads_expect ⊥ ts m.Semicolon end at s2 r.closes) (λ s3. reads_pure ⊥ ts a (at + 1) s3)))

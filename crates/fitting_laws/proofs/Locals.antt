@@ -143,8 +143,8 @@ module _ (ts : List Lexed) (limits : Limits) (is_free : limits.free ≡ false) w
     pub keep_lengths : (a : Lengths) (at seen : ℕ) → Post (λ b to. ShortLengths a b at to) (turns (sees m.OpenBracket) (length_more limits) limits.turns a ts at seen)
     keep_lengths a at seen = post_turns ts ShortLengths ShortLengths (sees m.OpenBracket) (length_more limits) (λ a at r. r) (λ a b c from mid to i q r. q (i r)) (λ a from s e. keep_length a from s) limits.turns a at seen
 
-    pub declared_keeps : (id : Identifier) (list : List Term) → length id.name ≤ limits.names → greatest (map term_name list) ≤ limits.names → Keeps limits d (λ count. count.of_name (declared id list))
-    declared_keeps id list a b = record { depth = omega arith; long = omega arith; short = omega (arith, a, b) }
+    pub declared_keeps : (id : Identifier) (list : List Term) (end : Place) → length id.name ≤ limits.names → greatest (map term_name list) ≤ limits.names → Keeps limits d (λ count. count.of_name (declared id list end))
+    declared_keeps id list end a b = record { depth = omega arith; long = omega arith; short = omega (arith, a, b) }
 
     pub keep_declared : (at seen : ℕ) → Post (λ (x : Named) (to : ℕ). Keeps limits d (λ count. count.of_name x.0)) (declared_name limits ts at seen)
     unfolding declared_name
@@ -152,7 +152,7 @@ module _ (ts : List Lexed) (limits : Limits) (is_free : limits.free ≡ false) w
         post_bind ts (λ (id : Identifier) (to : ℕ). length id.name ≤ limits.names) Q (name limits) _ at seen (short_name ts limits is_free at seen)
         (λ id mid s1 h. post_bind ts (λ all to. ShortLengths ([], id.place) all mid to) Q (turns (sees m.OpenBracket) (length_more limits) limits.turns ([], id.place)) _ mid s1
         (keep_lengths ([], id.place) mid s1)
-        (λ all to s2 g. declared_keeps id all.0 h (g (omega arith))))
+        (λ all to s2 g. declared_keeps id all.0 all.1 h (g (omega arith))))
 
     abbrev IsOne : One → ℕ → Type 0
     IsOne x to = Keeps limits d (λ count. in_local_name count x.0)

@@ -145,10 +145,10 @@ module _ (ts : List Lexed) (limits : Limits) (is_free : limits.free ≡ false) (
   unfolding field_rest
   fit_field_rest x at seen r = post_bind ts (λ c to. ShortLengths ts limits is_free nodes ([], x.1.place) c at to) IsField (turns (sees m.OpenBracket) (length_more limits) limits.turns ([], x.1.place)) _ at seen
       (keep_lengths ts limits is_free nodes ([], x.1.place) at seen)
-      (λ c a1 s1 h. post_bind ts (λ b to. MoreFields (declared x.1 c.0 ∷ []) b a1 to) IsField (turns (sees m.Comma) (field_more limits nodes) limits.turns (declared x.1 c.0 ∷ [])) _ a1 s1
-      (post_turns ts MoreFields MoreFields (sees m.Comma) (field_more limits nodes) (λ a at q. q) (λ a b c from mid to o q z. q (o z)) (λ a from s e. fit_field_more a from s) limits.turns (declared x.1 c.0 ∷ []) a1 s1)
+      (λ c a1 s1 h. post_bind ts (λ b to. MoreFields (declared x.1 c.0 c.1 ∷ []) b a1 to) IsField (turns (sees m.Comma) (field_more limits nodes) limits.turns (declared x.1 c.0 c.1 ∷ [])) _ a1 s1
+      (post_turns ts MoreFields MoreFields (sees m.Comma) (field_more limits nodes) (λ a at q. q) (λ a b c from mid to o q z. q (o z)) (λ a from s e. fit_field_more a from s) limits.turns (declared x.1 c.0 c.1 ∷ []) a1 s1)
       (λ all a2 s2 q. post_bind ts Any IsField (expect m.Semicolon) _ a2 s2 (post_unit (expect m.Semicolon ts a2 s2)) (λ end to s3 o. both_keep limits nodes (λ count. count.of_type x.0) (λ count. greatest (map count.of_name all)) r.0
-      (q (keep_one limits (λ count x. count.of_name x) nodes (declared x.1 c.0) (declared_keeps ts limits is_free nodes x.1 c.0 r.1.short (h (omega arith))))))))
+      (q (keep_one limits (λ count x. count.of_name x) nodes (declared x.1 c.0 c.1) (declared_keeps ts limits is_free nodes x.1 c.0 c.1 r.1.short (h (omega arith))))))))
 
   pub head_keeps : (id : Identifier) (g : List GenericParameter) (h : List Identifier) (c : List Constraint) → Keeps limits nodes (λ count. count.of_identifier id) → Keeps limits nodes (λ count. in_items count (in_generic count) g) →
       Keeps limits nodes (λ count. greatest (map count.of_identifier h)) → All limits in_constraint nodes c → Keeps limits nodes (λ count. in_head count id g h c)

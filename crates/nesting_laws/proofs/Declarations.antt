@@ -172,7 +172,7 @@ module _ (ts : List Lexed) (limits : Limits) (is_free : limits.free ≡ false) (
   clear_field_rest : (x : TypeName limits nodes) (at seen : ℕ) → Clear nodes (deep_type x.0) → Post IsField (field_rest limits nodes x ts at seen)
   unfolding field_rest
   clear_field_rest x at seen r = post_bind ts Any IsField (turns (sees m.OpenBracket) (length_more limits) limits.turns ([], x.1.place)) _ at seen (post_unit (turns (sees m.OpenBracket) (length_more limits) limits.turns ([], x.1.place) ts at seen))
-      (λ c a1 s1 o. post_bind ts Any IsField (turns (sees m.Comma) (field_more limits nodes) limits.turns (declared x.1 c.0 ∷ [])) _ a1 s1 (post_unit (turns (sees m.Comma) (field_more limits nodes) limits.turns (declared x.1 c.0 ∷ []) ts a1 s1))
+      (λ c a1 s1 o. post_bind ts Any IsField (turns (sees m.Comma) (field_more limits nodes) limits.turns (declared x.1 c.0 c.1 ∷ [])) _ a1 s1 (post_unit (turns (sees m.Comma) (field_more limits nodes) limits.turns (declared x.1 c.0 c.1 ∷ []) ts a1 s1))
       (λ all a2 s2 o. post_bind ts Any IsField (expect m.Semicolon) _ a2 s2 (post_unit (expect m.Semicolon ts a2 s2)) (λ end to s3 o. r)))
 
   -- ---- members of extensions and of structs in structs

@@ -26,9 +26,11 @@ pub enum AttributeNode {
     Binding(Number, Number),
 }
 
-/// A name that is declared, with the lengths of arrays behind it: `a[2][3]`.
+/// A name that is declared, with the lengths of arrays behind it: `a[2][3]`. Its place goes from the name to past the last
+/// bracket; without brackets it is that of the name.
 #[derive(Drop)]
 pub struct DeclaredName {
+    pub place: Place,
     pub name: Identifier,
     pub lengths: Items<Term>,
 }

@@ -40,7 +40,7 @@ module _ (limits : Limits) where
   pub ready_declared : Ready Unlengthened (token k.Name ∷ []) (declared_name limits) (declared_name large)
   unfolding declared_name
   ready_declared = ready_bind Unlengthened Any (token k.Name ∷ []) [] (name limits) (name large) _ _ (λ rest f. tt) (ready_name limits large (wider limits) Any)
-      (λ id. ready_last Unlengthened [] (turns (sees m.OpenBracket) (length_more limits) limits.turns ([], id.place)) (turns (sees m.OpenBracket) (length_more large) large.turns ([], id.place)) (λ list. (declared id list.0, list.1))
+      (λ id. ready_last Unlengthened [] (turns (sees m.OpenBracket) (length_more limits) limits.turns ([], id.place)) (turns (sees m.OpenBracket) (length_more large) large.turns ([], id.place)) (λ list. (declared id list.0 list.1, list.1))
       (ready_turns Unlengthened Any (sees m.OpenBracket) (length_more limits) (length_more large) limits.turns large.turns ([], id.place) (omega arith) (λ y c. tt) (λ y c. c) viable_length_more))
 
   -- ---- what has more room is tame, whatever it holds

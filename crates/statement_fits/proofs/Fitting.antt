@@ -124,11 +124,11 @@ module _ (limits : Limits) where
 
   -- ---- declared names and locals
 
-  pub name_short : (d : ℕ) (id : Identifier) (list : List Term) → Keeps limits d (λ count. count.of_name (declared id list)) → length id.name ≤ limits.names
-  name_short d id list w = let h : max (length id.name) (greatest (map term_name list)) ≤ limits.names = w.short in omega (arith, h)
+  pub name_short : (d : ℕ) (id : Identifier) (list : List Term) (end : Place) → Keeps limits d (λ count. count.of_name (declared id list end)) → length id.name ≤ limits.names
+  name_short d id list end w = let h : max (length id.name) (greatest (map term_name list)) ≤ limits.names = w.short in omega (arith, h)
 
-  pub lengths_short : (d : ℕ) (id : Identifier) (list : List Term) → Keeps limits d (λ count. count.of_name (declared id list)) → greatest (map term_name list) ≤ limits.names
-  lengths_short d id list w = let h : max (length id.name) (greatest (map term_name list)) ≤ limits.names = w.short in omega (arith, h)
+  pub lengths_short : (d : ℕ) (id : Identifier) (list : List Term) (end : Place) → Keeps limits d (λ count. count.of_name (declared id list end)) → greatest (map term_name list) ≤ limits.names
+  lengths_short d id list end w = let h : max (length id.name) (greatest (map term_name list)) ≤ limits.names = w.short in omega (arith, h)
 
   pub name_alone : (d : ℕ) (x : DeclaredName) (v : Option Initializer) → Keeps limits d (λ count. in_local_name count (local_name x v)) → Keeps limits d (λ count. count.of_name x)
   name_alone d x v w = less d (λ count. count.of_name x) (λ count. in_local_name count (local_name x v)) (λ count. max_left (count.of_name x) (optional (in_initializer count) v)) w

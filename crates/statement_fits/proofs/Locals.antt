@@ -121,10 +121,10 @@ module _ (ts : List Lexed) (limits : Limits) where
       Reads ⊥ (declared_name limits) ts from seen (x, end) to
   unfolding declared_name
   declared_read {from = from} {to = to} (t.declared_name {end = end} {id = id} {list = list} s r) {d = d} u w seen =
-      let a : Named = (declared id list, end) in
-      reads_bind ⊥ ts (name limits) _ from seen (from + 1) to id a (name_within ⊥ ts limits id from seen (inl (name_short limits d id list w)) s)
+      let a : Named = (declared id list end, end) in
+      reads_bind ⊥ ts (name limits) _ from seen (from + 1) to id a (name_within ⊥ ts limits id from seen (inl (name_short limits d id list end w)) s)
       (λ s1. reads_bind ⊥ ts (turns (sees m.OpenBracket) (length_more limits) limits.turns ([], id.place)) _ (from + 1) s1 to to (list, end) a
-      (lengths_read r limits.turns s1 (left_all u (from + 1)) (lengths_short limits d id list w)) (λ s2. reads_pure ⊥ ts a to s2))
+      (lengths_read r limits.turns s1 (left_all u (from + 1)) (lengths_short limits d id list end w)) (λ s2. reads_pure ⊥ ts a to s2))
 
   -- ---- what locals begin with
 

@@ -109,7 +109,7 @@ named_type bytes at = typed (lies at (at + 1)) (t.Named (of_name bytes at) [])
 
 -- a<b> x; declares x
 type_and_name : statements some_limits 4 (placed 0 (named_token a_name ∷ mark m.Less ∷ named_token b_name ∷ mark m.Greater ∷ named_token x_name ∷ mark m.Semicolon ∷ [])) 0 0 ≡
-    Done (stated (lies 0 6) (s.Local (local_of (lies 0 5) false (typed (lies 0 4) (t.Named (of_name a_name 0) (g.Term (named_type b_name 2) ∷ []))) (local_name (declared (of_name x_name 4) []) None ∷ [])))) 6 6
+    Done (stated (lies 0 6) (s.Local (local_of (lies 0 5) false (typed (lies 0 4) (t.Named (of_name a_name 0) (g.Term (named_type b_name 2) ∷ []))) (local_name (declared (of_name x_name 4) [] (lies 4 5)) None ∷ [])))) 6 6
 unfolding statements stat simple_stat simple local_ahead named_ahead rest_ahead name_ahead arguments argument type_argument types type_name name_rest type_rest project array name variable names_rest one_name declared_name bind next foresee turns expect
 type_and_name = refl
 

@@ -61,7 +61,7 @@ module _ (E : Type 0) (e : E) (ts : List Lexed) (limits : Limits) where
   pub reads_declared : {x : DeclaredName} {end : Place} {from to : ℕ} → DeclaredNameAt ts x end from to → (seen : ℕ) → Reads E (declared_name limits) ts from seen (x, end) to
   unfolding declared_name
   reads_declared {from = from} {to = to} (t.declared_name {end = end} {id = id} {list = list} s r) seen =
-      let a : Named = (declared id list, end) in
+      let a : Named = (declared id list end, end) in
       reads_bind E ts (name limits) _ from seen (from + 1) to id a (reads_name E ts e limits id from seen s)
       (λ s1. reads_bind E ts (turns (sees m.OpenBracket) (length_more limits) limits.turns ([], id.place)) _ (from + 1) s1 to to (list, end) a (reads_lengths r limits.turns s1) (λ s2. reads_pure E ts a to s2))
 

@@ -48,8 +48,9 @@ pub record IsNoWord (ts : List Lexed) (word : Word) (at : ℕ) : Type 0 where
 
 -- ---- declared names
 
-abbrev pub declared : Identifier → List Term → DeclaredName
-declared id list = record { name = id; lengths = list }
+-- from the name to the end of the last token, which is the name itself where no length stands behind it
+abbrev pub declared : Identifier → List Term → Place → DeclaredName
+declared id list end = record { place = span id.place end; name = id; lengths = list }
 
 -- the lengths so far go on to be that list; the first place is that of the token before, the second that of the last one
 pub data LengthsAt (ts : List Lexed) : List Term → List Term → Place → Place → ℕ → ℕ → Type 0 where
@@ -61,7 +62,7 @@ pub data LengthsAt (ts : List Lexed) : List Term → List Term → Place → Pla
 -- a name with lengths of arrays behind it, and the place of its last token
 pub data DeclaredNameAt (ts : List Lexed) : DeclaredName → Place → ℕ → ℕ → Type 0 where
   declared_name : {from to : ℕ} {end : Place} {id : Identifier} {list : List Term} → NameStands ts from id → LengthsAt ts [] list id.place end (from + 1) to →
-      DeclaredNameAt ts (declared id list) end from to
+      DeclaredNameAt ts (declared id list end) end from to
 
 -- ---- what locals begin with
 

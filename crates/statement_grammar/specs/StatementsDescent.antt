@@ -65,7 +65,7 @@ unfoldable pub declared_name : Limits → Parser Named
 declared_name limits = do
   id ← name limits
   list ← turns (sees m.OpenBracket) (length_more limits) limits.turns ([], id.place)
-  pure (declared id list.0, list.1)
+  pure (declared id list.0 list.1, list.1)
 
 -- ---- what locals begin with
 

@@ -127,7 +127,7 @@ abbrev local_tokens : List Lexed
 local_tokens = placed 0 (named_token a_name ∷ named_token b_name ∷ mark m.Equal ∷ mark m.OpenBrace ∷ number ∷ mark m.Comma ∷ number ∷ mark m.CloseBrace ∷ [])
 
 abbrev local : LocalAt local_tokens (local_of (lies 0 8) false (typed (lies 0 1) (n.Named (name_at a_name 0) []))
-    (local_name (declared (name_at b_name 1) []) (Some (i.List (listed (lies 3 8) (i.Expression (value_at 4) ∷ i.Expression (value_at 6) ∷ [])))) ∷ [])) 0 8
+    (local_name (declared (name_at b_name 1) [] (lies 1 2)) (Some (i.List (listed (lies 3 8) (i.Expression (value_at 4) ∷ i.Expression (value_at 6) ∷ [])))) ∷ [])) 0 8
 local = t.variable (ty.plain (ty.name (record { is = refl })) ty.whole)
     (t.begun (t.declared_name (record { is = refl }) (t.end (record { is = refl }))) (record { bytes = []; is = refl })
     (t.braces (t.items (record { bytes = []; is = refl }) (t.expression (a_value (record { bytes = []; is = refl })))

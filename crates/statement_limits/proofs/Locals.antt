@@ -155,7 +155,7 @@ module _ (ts : List Lexed) where
     pub tells_declared : {x : DeclaredName} {end : Place} {from to : ℕ} → (s : DeclaredNameAt ts x end from to) → (seen : ℕ) → Tells (declared_breaks ts limits s) (declared_name limits) ts from seen (x, end) to
     unfolding declared_name
     tells_declared {from = from} {to = to} (t.declared_name {end = end} {id = id} {list = list} s r) seen =
-        let a : Named = (declared id list, end) in
+        let a : Named = (declared id list end, end) in
         tells_bind ts (name limits) _ from seen (from + 1) to id a (tells_name ts limits free id from seen s)
         (λ s1. tells_last ts (turns (sees m.OpenBracket) (length_more limits) limits.turns ([], id.place)) _ (from + 1) s1 to to (list, end) a
         (tells_lengths r limits.turns s1 (omega (arith, long))) (λ s2. reads_pure ⊥ ts a to s2))
