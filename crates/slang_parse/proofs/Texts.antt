@@ -1,5 +1,5 @@
 -- Which texts are parsed, and how the others are refused, from what the layers below say.
-use Rattle.std.proofs.Common.{◌≡◌, ℕ, zero, suc, ◌+◌, ◌-◌, ◌<◌, ◌≤◌, List, length, ◌++◌, take, drop, Option, Some, None, Result, Ok, Err, false, refl, sym, ◌∙◌, ap, subst, arith, ◌⊎◌, inl, inr}
+use Rattle.std.proofs.Common.{◌≡◌, ℕ, zero, suc, ◌+◌, ◌-◌, ◌<◌, ◌≤◌, List, length, ◌++◌, take, drop, Option, Some, None, Result, Ok, Err, true, false, refl, sym, ◌∙◌, ap, subst, arith, ◌⊎◌, inl, inr}
 use Rattle.slang_names.specs.declared.places.Place.{Place}
 use Rattle.slang_names.specs.declared.codes.ModuleCode.{ModuleCode}
 use Rattle.slang_names.specs.declared.codes.ModuleCode.TheVariants as code
@@ -15,7 +15,8 @@ use Rattle.slang_grammar.specs.Descent.{Limits}
 use Rattle.type_reading.specs.Limited.{language}
 use Rattle.declaration_grammar.specs.Declarations.{FileAt}
 use Rattle.declaration_grammar.specs.DeclarationsDescent.{files}
-use Rattle.declaration_fits.specs.Sizes.{FileFits}
+use Rattle.statement_fits.specs.Sizes.{nodes, lists, names}
+use Rattle.declaration_fits.specs.Sizes.{in_file, FileFits}
 use Rattle.expression_limits.specs.Breaks.{Break}
 use Rattle.declaration_limits.specs.Declarations.{file_break}
 use Rattle.file_reading.specs.Wholes as whole
@@ -120,6 +121,39 @@ module _ (laws : Laws) where
       absurd (let z = sym e ∙ same_outcome text ts us (Stop n) cut cuts d in cc)
   one_place text p q a b (past_limit {tokens = ts} short cut e) (past_limit {tokens = us} {seen = n} s cuts d) =
       (let z = sym e ∙ same_outcome text ts us (Past b q n) cut cuts d in (cc, cc))
+
+-- ---- tokens spell one file
+
+-- limits that a file keeps, and that let every attribute be
+abbrev room : List Lexed → File → Limits
+room ts x = record { turns = length ts + (in_file nodes x + in_file lists x); items = in_file lists x; names = in_file names x; free = true }
+
+same : (n : ℕ) → n ≤ n
+same n = omega arith
+
+first_of : (a b c : ℕ) → a ≤ a + (b + c)
+first_of a b c = omega arith
+
+second_of : (a b c : ℕ) → b ≤ a + (b + c)
+second_of a b c = omega arith
+
+third_of : (a b c : ℕ) → c ≤ a + (b + c)
+third_of a b c = omega arith
+
+fits_room : (ts : List Lexed) (x : File) → FileFits (room ts x) (in_file nodes x) x
+fits_room ts x = record { sizes = record { depth = same (in_file nodes x); long = same (in_file lists x); short = same (in_file names x) }; rules = refl }
+
+-- the descent with those limits answers one of them, which is the other
+pub one_spelled : ((ts : List Lexed) (limits : Limits) (nodes seen : ℕ) (x : File) → FileAt ts x → FileFits limits nodes x → length ts ≤ limits.turns → nodes ≤ limits.turns → limits.items ≤ limits.turns →
+    (to seen1 : ℕ) × (files limits nodes ts 0 seen ≡ Done x to seen1)) →
+    ((ts : List Lexed) (limits : Limits) (nodes seen end seen1 : ℕ) (x y : File) → FileAt ts x → files limits nodes ts 0 seen ≡ Done y end seen1 → (y ≡ x) × (first (drop end ts) ≡ None)) →
+    (ts : List Lexed) (x y : File) → FileAt ts x → FileAt ts y → y ≡ x
+one_spelled answered read ts x y s t =
+    let a = length ts in
+    let b = in_file nodes x in
+    let c = in_file lists x in
+    let d = answered ts (room ts x) b 0 x s (fits_room ts x) (first_of a b c) (second_of a b c) (third_of a b c) in
+    sym (read ts (room ts x) b 0 d.0 d.1 y x t d.2).0
 
 -- ---- from what is known of the reading of a text
 

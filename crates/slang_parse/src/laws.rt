@@ -8,9 +8,7 @@ ghost use Rattle.slang_tokens.specs.declared.tokens.Token.{Token};
 ghost use Rattle.slang_tokens.specs.Cutting.{Tokens};
 ghost use Rattle.slang_reading.specs.Lexed.{Lexed, lexed_all};
 ghost use Rattle.slang_reading.specs.Reading.{Done, Stop, Past};
-ghost use Rattle.slang_grammar.specs.Descent.{Limits};
 ghost use Rattle.type_reading.specs.Limited.{language};
-ghost use Rattle.declaration_fits.specs.Sizes.{FileFits};
 ghost use Rattle.declaration_grammar.specs.Declarations.{FileAt};
 ghost use Rattle.expression_limits.specs.Breaks.{Break};
 ghost use Rattle.statement_limits.specs.Order.{IsKnownFirst};
@@ -49,11 +47,9 @@ pub fn wrong_tokens_are_the_first()
     files_are_read();
 }
 
-/// Tokens spell one file. Of two files that the same tokens spell, one of which keeps some limits, however large, and the rules
-/// on attributes, both are the same.
+/// Tokens spell one file, whatever limits and rules on attributes it breaks.
 pub fn tokens_spell_one_file()
-    ensures { (ts : List Lexed) (limits : Limits) (nodes : ℕ) (x y : File) → FileAt ts x → FileAt ts y → FileFits limits nodes x
-        → length ts ≤ limits.turns → nodes ≤ limits.turns → limits.items ≤ limits.turns → y ≡ x }
+    ensures { (ts : List Lexed) (x y : File) → FileAt ts x → FileAt ts y → y ≡ x }
 {
     files_are_answered();
     files_are_read();
