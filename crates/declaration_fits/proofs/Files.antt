@@ -42,7 +42,7 @@ use Rattle.declaration_laws.proofs.Functions.{reads_map, RestAt, function_begins
 use Rattle.declaration_laws.proofs.Files.{item_begins, item_there, import_there}
 use Rattle.statement_grammar.specs.AttributeRules.{all_true, obeys}
 use Rattle.statement_fits.specs.Sizes.{Count, optional, in_attributes, Keeps}
-use Rattle.statement_fits.proofs.Fitting.{and_left, and_right, value_fits}
+use Rattle.statement_fits.proofs.Fitting.{or_left, or_right, value_fits}
 use Rattle.statement_fits.proofs.Moves.{Enough, Left, left_all, left_next, left_none, attributes_move}
 use Rattle.statement_fits.proofs.Locals.{value_read}
 use Rattle.statement_fits.proofs.Attributes.{Among, free_or, attributes_read}
@@ -95,7 +95,7 @@ module _ (ts : List Lexed) (limits : Limits) (nodes : ℕ) (u : Enough ts limits
       (λ s3. reads_bind ⊥ ts (expressions limits nodes) _ (mid + 1 + 1) s3 at (at + 1) (x, expr_height x) a (value_read ts limits y closes nodes s3 u (value_fits limits nodes x (right _ _ behind)))
       (λ s4. reads_bind ⊥ ts (expect m.Semicolon) _ at s4 (at + 1) (at + 1) end a (reads_expect ⊥ ts m.Semicolon end at s4 z) (λ s5. reads_pure ⊥ ts a (at + 1) s5)))))
 
-  reads_item_node : {x : ItemNode} {from to : ℕ} → ItemNodeAt ts x from to → (list : Noted) (seen : ℕ) → May (item_target x) list → Fit (λ count. in_item_node count x) → item_node_obeys x ≡ true → Reads ⊥ (item_node limits nodes list) ts from seen x to
+  reads_item_node : {x : ItemNode} {from to : ℕ} → ItemNodeAt ts x from to → (list : Noted) (seen : ℕ) → May limits (item_target x) list → Fit (λ count. in_item_node count x) → (limits.free || item_node_obeys x) ≡ true → Reads ⊥ (item_node limits nodes list) ts from seen x to
   unfolding item_node item_typed
   reads_item_node {to = to} (t.struct {x = x} (t.struct {p = p} s h l c)) list seen may w obeyed =
       reads_worded ts limits d.Struct (struct_rest limits nodes p) (λ x. item_as limits nodes list x (use_of x)) x to target.Other list may s refl (λ s1. reads_struct ts limits nodes u p h l c s1 w obeyed) seen
@@ -134,12 +134,12 @@ module _ (ts : List Lexed) (limits : Limits) (nodes : ℕ) (u : Enough ts limits
   unfolding item_more
   reads_item list {xs = xs} {v = v} {x = x} {from = from} {mid = mid} {at = at} {to = to} a b f i seen w =
       let named : Fit (λ count. in_attributes count xs) = left _ _ w.sizes in
-      let read = attributes_read ts limits (item_target x) attributes.items (before_item x) a u (and_left (obeys (item_target x) xs) (item_node_obeys x) w.rules) named.short in
+      let read = attributes_read ts limits (item_target x) attributes.items (before_item x) a u (or_left limits.free (obeys (item_target x) xs) (item_node_obeys x) w.rules) named.short in
       let given : Given = (xs, read.0) in
       let z = list ++ item_of xs v x ∷ [] in
       reads_bind ⊥ ts (attributes.attributes limits attributes.items) _ from seen mid to given z (read.2 seen)
       (λ s1. reads_bind ⊥ ts (item_access limits nodes) _ mid s1 at to v z (reads_item_access b f s1)
-      (λ s2. reads_bind ⊥ ts (item_node limits nodes given.1) _ at s2 to to x z (reads_item_node i given.1 s2 read.1 (right _ _ w.sizes) (and_right (obeys (item_target x) xs) (item_node_obeys x) w.rules)) (λ s3. reads_pure ⊥ ts z to s3)))
+      (λ s2. reads_bind ⊥ ts (item_node limits nodes given.1) _ at s2 to to x z (reads_item_node i given.1 s2 read.1 (right _ _ w.sizes) (or_right limits.free (obeys (item_target x) xs) (item_node_obeys x) w.rules)) (λ s3. reads_pure ⊥ ts z to s3)))
 
   items_front : {xs ys : List Item} {from : ℕ} → ItemsAt ts xs ys from → Front xs ys
   items_front (t.end q) = whole
@@ -159,11 +159,11 @@ module _ (ts : List Lexed) (limits : Limits) (nodes : ℕ) (u : Enough ts limits
       reads_turns_more ⊥ ts (is_token limits nodes) (item_more limits nodes) count list (list ++ item_of xs v x ∷ []) all from seen at to (item_there (Unit {0}) tt ts limits nodes a b i) (λ s1. reads_item list a b f i s1 w)
       (λ s1. h count s1 (left_next ts count from at moves left_))
 
-  reads_items : {list all : List Item} {from : ℕ} → ItemsAt ts list all from → Fit (λ count. in_each count (in_item count) all) → all_true (map item_obeys all) ≡ true → Ends list all from
+  reads_items : {list all : List Item} {from : ℕ} → ItemsAt ts list all from → Fit (λ count. in_each count (in_item count) all) → (limits.free || all_true (map item_obeys all)) ≡ true → Ends list all from
   reads_items {list = list} {from = from} (t.end q) w o = record { to = from; reads = λ count seen left_. reads_turns_end ⊥ ts (is_token limits nodes) (item_more limits nodes) count list from seen (ap (is_token limits nodes) q) }
   reads_items {list = list} {all = all} (t.more {attributes = xs} {access = v} {x = x} a b f i l) w o =
       let after = reads_items l w o in
-      let fits : ItemFits limits nodes (item_of xs v x) = record { sizes = one_keeps in_item list (item_of xs v x) (items_front l) w; rules = one_obeys item_obeys list (item_of xs v x) (items_front l) o } in
+      let fits : ItemFits limits nodes (item_of xs v x) = record { sizes = one_keeps in_item list (item_of xs v x) (items_front l) w; rules = one_obeys item_obeys limits.free list (item_of xs v x) (items_front l) o } in
       record { to = after.to; reads = reads_items_rest list all after.to a b f i fits after.reads }
 
   -- ---- files

@@ -1,9 +1,9 @@
 -- What of a declaration within the limits is within them too.
-use Rattle.std.proofs.Common.{refl, Bool, true, ◌≡◌, ℕ, ◌<◌, ◌≤◌, max, List, [], ◌∷◌, ◌++◌, length, length-append, map, arith}
+use Rattle.std.proofs.Common.{refl, Bool, true, ◌||◌, ◌≡◌, ℕ, ◌<◌, ◌≤◌, max, List, [], ◌∷◌, ◌++◌, length, length-append, map, arith}
 use Rattle.slang_grammar.specs.Descent.{Limits}
 use Rattle.statement_grammar.specs.AttributeRules.{all_true}
 use Rattle.statement_fits.specs.Sizes.{Count, Keeps}
-use Rattle.statement_fits.proofs.Fitting.{and_left, and_right, and_both, max_left, max_right, less, front_fits, last_fits}
+use Rattle.statement_fits.proofs.Fitting.{and_left, and_right, and_both, or_map, max_left, max_right, less, front_fits, last_fits}
 use Rattle.declaration_fits.specs.Sizes.{in_each}
 
 -- the list so far goes on to be the other
@@ -30,8 +30,8 @@ module _ {A : Type 0} (f : A → Bool) where
   all_front (longer {xs = xs} x r) h = true_front xs x (all_front r h)
 
   -- each obeys
-  pub one_obeys : (xs : List A) (x : A) {ys : List A} → Front (xs ++ x ∷ []) ys → all_true (map f ys) ≡ true → f x ≡ true
-  one_obeys xs x r h = true_last xs x (all_front r h)
+  pub one_obeys : (free : Bool) (xs : List A) (x : A) {ys : List A} → Front (xs ++ x ∷ []) ys → (free || all_true (map f ys)) ≡ true → (free || f x) ≡ true
+  one_obeys free xs x {ys = ys} r h = or_map free (all_true (map f ys)) (f x) (λ h. true_last xs x (all_front r h)) h
 
 -- each stands behind fewer than a list may have
 pub one_in : {A : Type 0} (limits : Limits) (xs : List A) (x : A) {ys : List A} → Front (xs ++ x ∷ []) ys → length ys ≤ limits.items → length xs < limits.items

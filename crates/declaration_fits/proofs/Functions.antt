@@ -1,5 +1,5 @@
 -- Functions, aliases and fields: what is spelled within the limits is read.
-use Rattle.std.proofs.Common.{◌≤◌, if◌then◌else◌, subst, sym, ◌∙◌, arith, Bool, true, false, ◌≡◌, ℕ, zero, suc, ◌+◌, List, [], ◌∷◌, ◌++◌, drop, Option, Some, None, refl, ap}
+use Rattle.std.proofs.Common.{◌≤◌, ◌||◌, if◌then◌else◌, subst, sym, ◌∙◌, arith, Bool, true, false, ◌≡◌, ℕ, zero, suc, ◌+◌, List, [], ◌∷◌, ◌++◌, drop, Option, Some, None, refl, ap}
 use Rattle.std.specs.List.{list_all}
 use Rattle.slang_names.specs.declared.places.Place.{Place}
 use Rattle.slang_tree.specs.declared.types.Identifier.{Identifier}
@@ -46,11 +46,11 @@ use Rattle.declaration_fits.specs.Sizes.{in_each, in_alias, FunctionFits}
 use Rattle.declaration_fits.proofs.Fitting.{Front, whole, longer, left, right, one_keeps}
 use Rattle.declaration_fits.proofs.Parts.{name_read, type_read, reads_generics, reads_constraints, reads_parameters}
 
--- all that are noted may stand before that
-abbrev pub May : Target → Noted → Type 0
-May target list = list_all (λ x. may_stand x.0 target) list ≡ true
+-- all that are noted may stand before that, or the limits are free
+abbrev pub May : Limits → Target → Noted → Type 0
+May limits target list = (limits.free || list_all (λ x. may_stand x.0 target) list) ≡ true
 
-no_misfit : (target : Target) (list : Noted) → May target list → misfit target list ≡ None
+no_misfit : (target : Target) (list : Noted) → list_all (λ x. may_stand x.0 target) list ≡ true → misfit target list ≡ None
 no_misfit target [] h = refl
 no_misfit target (x ∷ xs) h = ap (λ b. if b then misfit target xs else Some x.1) (and_left (may_stand x.0 target) (list_all (λ y. may_stand y.0 target) xs) h)
     ∙ no_misfit target xs (and_right (may_stand x.0 target) (list_all (λ y. may_stand y.0 target) xs) h)
@@ -58,15 +58,16 @@ no_misfit target (x ∷ xs) h = ap (λ b. if b then misfit target xs else Some x
 module _ (ts : List Lexed) (limits : Limits) where
   -- ---- what attributes may stand before
 
-  suited_read : {A : Type 0} (at : ℕ) (a : A) (to : ℕ) (x : Option Lexed) (free : Bool) (c : Choice A) → ReadsChoice ⊥ ts at a to x c → ReadsChoice ⊥ ts at a to x (suited free None c)
-  suited_read at a to x true c h = h
-  suited_read at a to x false c h = h
+  suited_read : {A : Type 0} (at : ℕ) (a : A) (to : ℕ) (x : Option Lexed) (target : Target) (list : Noted) (free : Bool) (c : Choice A) → (free || list_all (λ x. may_stand x.0 target) list) ≡ true → ReadsChoice ⊥ ts at a to x c →
+      ReadsChoice ⊥ ts at a to x (suited free (misfit target list) c)
+  suited_read at a to x target list true c m h = h
+  suited_read at a to x target list false c m h = subst (λ wrong. ReadsChoice ⊥ ts at a to x (suited false wrong c)) (sym (no_misfit target list m)) h
 
-  pub suits_read : {A : Type 0} (at : ℕ) (a : A) (to : ℕ) (x : Option Lexed) (target : Target) (list : Noted) (c : Choice A) → May target list → ReadsChoice ⊥ ts at a to x c → ReadsChoice ⊥ ts at a to x (if_suits limits target list c)
-  suits_read at a to x target list c m h = subst (λ wrong. ReadsChoice ⊥ ts at a to x (suited limits.free wrong c)) (sym (no_misfit target list m)) (suited_read at a to x limits.free c h)
+  pub suits_read : {A : Type 0} (at : ℕ) (a : A) (to : ℕ) (x : Option Lexed) (target : Target) (list : Noted) (c : Choice A) → May limits target list → ReadsChoice ⊥ ts at a to x c → ReadsChoice ⊥ ts at a to x (if_suits limits target list c)
+  suits_read at a to x target list c m h = suited_read at a to x target list limits.free c m h
 
   -- what begins with a word
-  pub reads_worded : {A B : Type 0} (f : A → B) (q : Parser A) (g : Option Lexed → Choice B) (a : A) {word : Word} {p : Place} {from : ℕ} (to : ℕ) (target : Target) (list : Noted) → May target list → (s : Stands ts from (k.Word word) p) →
+  pub reads_worded : {A B : Type 0} (f : A → B) (q : Parser A) (g : Option Lexed → Choice B) (a : A) {word : Word} {p : Place} {from : ℕ} (to : ℕ) (target : Target) (list : Noted) → May limits target list → (s : Stands ts from (k.Word word) p) →
       g (Some (record { kind = k.Word word; place = p; bytes = s.bytes })) ≡ if_suits limits target list (Take (q >>= (λ y. pure (f y)))) → ((s1 : ℕ) → Reads ⊥ q ts (from + 1) s1 a to) → (seen : ℕ) →
       Reads ⊥ (next g) ts from seen (f a) to
   reads_worded f q g a {word = word} {p = p} {from = from} to target list m s i h seen =
@@ -75,7 +76,7 @@ module _ (ts : List Lexed) (limits : Limits) where
       (suits_read from (f a) to (Some tok) target list (Take (q >>= (λ y. pure (f y)))) m (λ s1. reads_map ⊥ ts f q (from + 1) s1 a to (h s1)))
 
   -- what its next token shows
-  pub reads_shown : {A B : Type 0} (f : A → B) (q : Parser A) (g : Option Lexed → Choice B) (a : A) {from : ℕ} (to : ℕ) (target : Target) (list : Noted) → May target list →
+  pub reads_shown : {A B : Type 0} (f : A → B) (q : Parser A) (g : Option Lexed → Choice B) (a : A) {from : ℕ} (to : ℕ) (target : Target) (list : Noted) → May limits target list →
       g (first (drop from ts)) ≡ if_suits limits target list (Leave (q >>= (λ y. pure (f y)))) → ((s1 : ℕ) → Reads ⊥ q ts from s1 a to) → (seen : ℕ) → Reads ⊥ (next g) ts from seen (f a) to
   reads_shown f q g a {from = from} to target list m i h seen =
       reads_next ⊥ ts g from seen (f a) to (first (drop from ts)) (if_suits limits target list (Leave (q >>= (λ y. pure (f y))))) refl i
@@ -143,7 +144,7 @@ module _ (ts : List Lexed) (limits : Limits) where
     taken f list q = if_suits limits target.Other list (Take (q >>= (λ y. pure (f y))))
 
     -- what is an alias
-    pub reads_alias : {B : Type 0} (f : Alias → B) (g : Option Lexed → Choice B) (list : Noted) → May target.Other list →
+    pub reads_alias : {B : Type 0} (f : Alias → B) (g : Option Lexed → Choice B) (list : Noted) → May limits target.Other list →
         ((p : Place) (bytes : List ℕ) → g (Some (record { kind = k.Word words.TypeDef; place = p; bytes = bytes })) ≡ taken f list (type_def limits nodes p)) →
         ((p : Place) (bytes : List ℕ) → g (Some (record { kind = k.Word words.TypeAlias; place = p; bytes = bytes })) ≡ taken f list (type_alias limits nodes p)) →
         {x : Alias} {from to : ℕ} → AliasAt ts x from to → (seen : ℕ) → Fit (λ count. in_alias count x) → Reads ⊥ (next g) ts from seen (f x) to

@@ -1,5 +1,5 @@
 -- Interfaces and extensions: what is spelled within the limits is read.
-use Rattle.std.proofs.Common.{◌<◌, ◌≤◌, max, map, arith, inl, Bool, true, false, not, ◌≡◌, ℕ, zero, suc, ◌+◌, List, [], ◌∷◌, ◌++◌, drop, length, Option, Some, None, refl, ap}
+use Rattle.std.proofs.Common.{◌<◌, ◌≤◌, ◌||◌, max, map, arith, inl, Bool, true, false, not, ◌≡◌, ℕ, zero, suc, ◌+◌, List, [], ◌∷◌, ◌++◌, drop, length, Option, Some, None, refl, ap}
 use Rattle.slang_names.specs.declared.places.Place.{Place}
 use Rattle.slang_names.specs.declared.codes.ModuleCode.TheVariants as code
 use Rattle.slang_tree.specs.declared.types.Identifier.{Identifier}
@@ -41,7 +41,7 @@ use Rattle.slang_grammar.proofs.Limited.{excuse_in}
 use Rattle.statement_grammar.specs.AttributeRules.{all_true}
 use Rattle.statement_fits.specs.Sizes.{Count, optional, in_attributes, attribute_name, Keeps}
 use Rattle.statement_fits.proofs.Moves.{Enough, Left, left_all, left_next, left_none}
-use Rattle.statement_fits.proofs.Attributes.{attributes_read}
+use Rattle.statement_fits.proofs.Attributes.{free_or, attributes_read}
 use Rattle.declaration_fits.specs.Sizes.{in_items, in_parameter, in_inner_member, in_head, in_requirement, in_interface, in_extension, method_target, inner_member_obeys, requirement_obeys, RequirementFits}
 use Rattle.declaration_fits.proofs.Moves.{requirement_moves}
 use Rattle.declaration_fits.proofs.Fitting.{Front, whole, longer, left, right, one_obeys, one_keeps, one_in}
@@ -76,7 +76,7 @@ module _ (ts : List Lexed) (limits : Limits) (nodes : ℕ) (u : Enough ts limits
   reads_requirement {x = x} {from = from} (t.associated {at = at} {p = p} {end = end} {id = id} {bound = bound} s v b z) seen f =
       let none : AttributesAt ts [] [] from from = att.end (record { is = ap (sees m.OpenBracket) s.is }) in
       let short : greatest (map (λ (x : Attribute). attribute_name x.node) []) ≤ limits.names = omega arith in
-      let read = attributes_read ts limits target.Other attributes.members before_other none u refl short in
+      let read = attributes_read ts limits target.Other attributes.members before_other none u (free_or limits.free true refl) short in
       let given : Given = ([], read.0) in
       reads_bind ⊥ ts (attributes.attributes limits attributes.members) _ from seen from (at + 1) given x (read.2 seen)
       (λ s1. reads_next ⊥ ts (λ o. requirement_as limits nodes given o (use_of o)) from s1 x (at + 1) (Some (record { kind = k.Word words.AssociatedType; place = p; bytes = s.bytes })) (Take (associated limits nodes p)) s.is refl
@@ -130,18 +130,18 @@ module _ (ts : List Lexed) (limits : Limits) (nodes : ℕ) (u : Enough ts limits
   requirements_front (t.end c) = whole
   requirements_front (t.more {x = x} v l) = longer x (requirements_front l)
 
-  reads_requirements : {list all : List Requirement} {from to : ℕ} → RequirementsAt ts list all from to → (count seen : ℕ) → Left ts count from → Fit (λ count. in_items count (in_requirement count) all) → all_true (map requirement_obeys all) ≡ true → Reads ⊥ (turns (in_braces limits nodes) (requirement_more limits nodes) count list) ts from seen all to
+  reads_requirements : {list all : List Requirement} {from to : ℕ} → RequirementsAt ts list all from to → (count seen : ℕ) → Left ts count from → Fit (λ count. in_items count (in_requirement count) all) → (limits.free || all_true (map requirement_obeys all)) ≡ true → Reads ⊥ (turns (in_braces limits nodes) (requirement_more limits nodes) count list) ts from seen all to
   reads_requirements {list = list} {from = from} (t.end {p = p} c) count seen u1 f o = reads_turns_end ⊥ ts (in_braces limits nodes) (requirement_more limits nodes) count list from seen (ap not (is_there ts m.CloseBrace from p c))
   reads_requirements (t.more v l) zero seen u1 f o = absurd (requirement_none v u1)
   reads_requirements {list = list} {all = all} {from = from} {to = to} (t.more {mid = mid} {x = x} v l) (suc count) seen u1 f o = let open_ = requirement_open (Unit {0}) tt ts limits nodes v in
       reads_turns_more ⊥ ts (in_braces limits nodes) (requirement_more limits nodes) count list (list ++ x ∷ []) all from seen mid to (ap not open_.0)
       (λ s1. reads_requirement_more list v s1 (one_in limits list x (requirements_front l) (long_in ts limits nodes u in_requirement all f))
-      (record { sizes = one_keeps in_requirement list x (requirements_front l) (right _ _ f); rules = one_obeys requirement_obeys list x (requirements_front l) o }))
+      (record { sizes = one_keeps in_requirement list x (requirements_front l) (right _ _ f); rules = one_obeys requirement_obeys limits.free list x (requirements_front l) o }))
       (λ s1. reads_requirements l count s1 (left_next ts count from mid (requirement_moves ts v) u1) f o)
 
   -- behind its word
   pub reads_interface : (begin : Place) {id : Identifier} {q end : Place} {list : List Requirement} {from at to : ℕ} → NameStands ts from id → Stands ts (from + 1) (k.Mark m.OpenBrace) q → RequirementsAt ts [] list (from + 1 + 1) at →
-      ClosedAt ts end at to → (seen : ℕ) → Fit (λ count. in_interface count (interface_of (span begin end) id list)) → all_true (map requirement_obeys list) ≡ true → Reads ⊥ (interface_rest limits nodes begin) ts from seen (interface_of (span begin end) id list) to
+      ClosedAt ts end at to → (seen : ℕ) → Fit (λ count. in_interface count (interface_of (span begin end) id list)) → (limits.free || all_true (map requirement_obeys list)) ≡ true → Reads ⊥ (interface_rest limits nodes begin) ts from seen (interface_of (span begin end) id list) to
   unfolding interface_rest
   reads_interface begin {id = id} {q = q} {end = end} {list = list} {from = from} {at = at} {to = to} v o l c seen f obeyed =
       let z = interface_of (span begin end) id list in
@@ -192,7 +192,7 @@ module _ (ts : List Lexed) (limits : Limits) (nodes : ℕ) (u : Enough ts limits
   -- behind its word
   pub reads_extension : (start : Place) {q end : Place} {all : List GenericParameter} {id : Identifier} {arguments bases : List Identifier} {wheres : List Constraint} {members : List InnerMember} {from mid next_ at begin last to : ℕ} →
       GenericsAt ts all from mid → NameStands ts mid id → ExtendedAt ts arguments (mid + 1) next_ → HeadsAt ts bases next_ at → ConstraintsAt ts [] wheres at begin → Stands ts begin (k.Mark m.OpenBrace) q →
-      InnerMembersAt ts false [] members (begin + 1) last → ClosedAt ts end last to → (seen : ℕ) → Fit (λ count. in_extension count (extension_of (span start end) all id arguments bases wheres members)) → all_true (map inner_member_obeys members) ≡ true → Reads ⊥ (extension_rest limits nodes start) ts from seen (extension_of (span start end) all id arguments bases wheres members) to
+      InnerMembersAt ts false [] members (begin + 1) last → ClosedAt ts end last to → (seen : ℕ) → Fit (λ count. in_extension count (extension_of (span start end) all id arguments bases wheres members)) → (limits.free || all_true (map inner_member_obeys members)) ≡ true → Reads ⊥ (extension_rest limits nodes start) ts from seen (extension_of (span start end) all id arguments bases wheres members) to
   unfolding extension_rest
   reads_extension start {q = q} {end = end} {all = all} {id = id} {arguments = arguments} {bases = bases} {wheres = wheres} {members = members} {from = from} {mid = mid} {next_ = next_} {at = at} {begin = begin} {last = last} {to = to} g v x h c o r l seen f obeyed =
       let named : Fit (λ count. in_head count id all bases wheres) = left _ _ f in

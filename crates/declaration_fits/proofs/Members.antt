@@ -37,7 +37,7 @@ use Rattle.declaration_laws.proofs.Members.{inner_opens, member_opens}
 use Rattle.slang_grammar.proofs.Limited.{excuse_in}
 use Rattle.statement_grammar.specs.AttributeRules.{all_true, obeys}
 use Rattle.statement_fits.specs.Sizes.{Count, in_attributes, Keeps}
-use Rattle.statement_fits.proofs.Fitting.{and_left, and_right}
+use Rattle.statement_fits.proofs.Fitting.{or_left, or_right}
 use Rattle.statement_fits.proofs.Moves.{Enough, Left, left_all, left_next, left_none, attributes_move}
 use Rattle.statement_fits.proofs.Attributes.{Among, free_or, attributes_read}
 use Rattle.declaration_fits.specs.Sizes.{in_items, in_inner_node, in_inner_member, in_head, in_member_node, in_member, in_struct, method_target, inner_target, inner_node_obeys, inner_member_obeys, member_target, member_node_obeys, member_obeys, InnerMemberFits, MemberFits}
@@ -76,7 +76,7 @@ module _ (ts : List Lexed) (limits : Limits) (nodes : ℕ) (u : Enough ts limits
 
   -- ---- members of extensions and of structs in structs
 
-  reads_inner_node : {fields : Bool} {x : InnerMemberNode} {from to : ℕ} → InnerNodeAt ts fields x from to → (list : Noted) (seen : ℕ) → May (inner_target x) list → Fit (λ count. in_inner_node count x) → inner_node_obeys x ≡ true → Reads ⊥ (inner_node limits nodes fields list) ts from seen x to
+  reads_inner_node : {fields : Bool} {x : InnerMemberNode} {from to : ℕ} → InnerNodeAt ts fields x from to → (list : Noted) (seen : ℕ) → May limits (inner_target x) list → Fit (λ count. in_inner_node count x) → (limits.free || inner_node_obeys x) ≡ true → Reads ⊥ (inner_node limits nodes fields list) ts from seen x to
   unfolding inner_node inner_typed
   reads_inner_node {fields = fields} (t.alias r) list seen m f obeyed = reads_alias ts limits nodes u i.Alias (λ x. inner_as limits nodes fields list x (use_of x)) list m (λ p bytes. refl) (λ p bytes. refl) r seen f
   reads_inner_node {fields = fields} {to = to} (t.function {x = x} (t.function {at = at} {to = last} {next = next_} (t.static {p = p} s r) v g l c b)) list seen m f obeyed =
@@ -103,12 +103,12 @@ module _ (ts : List Lexed) (limits : Limits) (nodes : ℕ) (u : Enough ts limits
   unfolding inner_one
   reads_inner_one {fields = fields} {xs = xs} {v = v} {x = x} {from = from} {mid = mid} {at = at} {to = to} a b r seen f =
       let named : Fit (λ count. in_attributes count xs) = left _ _ f.sizes in
-      let read = attributes_read ts limits (inner_target x) attributes.members (before_inner x) a u (and_left (obeys (inner_target x) xs) (inner_node_obeys x) f.rules) named.short in
+      let read = attributes_read ts limits (inner_target x) attributes.members (before_inner x) a u (or_left limits.free (obeys (inner_target x) xs) (inner_node_obeys x) f.rules) named.short in
       let given : Given = (xs, read.0) in
       let z = inner_member xs v x in
       reads_bind ⊥ ts (attributes.attributes limits attributes.members) _ from seen mid to given z (read.2 seen)
       (λ s1. reads_bind ⊥ ts access _ mid s1 at to v z (reads_access ⊥ ts b s1)
-      (λ s2. reads_bind ⊥ ts (inner_node limits nodes fields given.1) _ at s2 to to x z (reads_inner_node r given.1 s2 read.1 (right _ _ f.sizes) (and_right (obeys (inner_target x) xs) (inner_node_obeys x) f.rules)) (λ s3. reads_pure ⊥ ts z to s3)))
+      (λ s2. reads_bind ⊥ ts (inner_node limits nodes fields given.1) _ at s2 to to x z (reads_inner_node r given.1 s2 read.1 (right _ _ f.sizes) (or_right limits.free (obeys (inner_target x) xs) (inner_node_obeys x) f.rules)) (λ s3. reads_pure ⊥ ts z to s3)))
 
   reads_inner_more : (list : List InnerMember) {fields : Bool} {xs : List Attribute} {v : Option Access} {x : InnerMemberNode} {from mid at to : ℕ} → AttributesAt ts [] xs from mid → AccessAt ts v mid at → InnerNodeAt ts fields x at to →
       (seen : ℕ) → length list < limits.items → InnerMemberFits limits nodes (inner_member xs v x) → Reads ⊥ (inner_more limits nodes fields list) ts from seen (list ++ inner_member xs v x ∷ []) to
@@ -127,17 +127,17 @@ module _ (ts : List Lexed) (limits : Limits) (nodes : ℕ) (u : Enough ts limits
   inner_front (t.end c) = whole
   inner_front (t.more {attributes = xs} {access = v} {x = x} a b r l) = longer (inner_member xs v x) (inner_front l)
 
-  reads_inner_members : {fields : Bool} {list all : List InnerMember} {from to : ℕ} → InnerMembersAt ts fields list all from to → (count seen : ℕ) → Left ts count from → Fit (λ count. in_items count (in_inner_member count) all) → all_true (map inner_member_obeys all) ≡ true → Reads ⊥ (turns (in_braces limits nodes) (inner_more limits nodes fields) count list) ts from seen all to
+  reads_inner_members : {fields : Bool} {list all : List InnerMember} {from to : ℕ} → InnerMembersAt ts fields list all from to → (count seen : ℕ) → Left ts count from → Fit (λ count. in_items count (in_inner_member count) all) → (limits.free || all_true (map inner_member_obeys all)) ≡ true → Reads ⊥ (turns (in_braces limits nodes) (inner_more limits nodes fields) count list) ts from seen all to
   reads_inner_members {fields = fields} {list = list} {from = from} (t.end {p = p} c) count seen u1 f o = reads_turns_end ⊥ ts (in_braces limits nodes) (inner_more limits nodes fields) count list from seen (ap not (is_there ts m.CloseBrace from p c))
   reads_inner_members {from = from} (t.more a b r l) zero seen u1 f o = let opened = inner_opens (Unit {0}) tt ts limits nodes r in let begin = begins_somewhere a b (opened.tok, opened.is) in absurd (left_none ts from begin.0 begin.1 u1)
   reads_inner_members {fields = fields} {list = list} {all = all} {from = from} {to = to} (t.more {at = at} {attributes = xs} {access = v} {x = x} a b r l) (suc count) seen u1 f o =
       let moves = member_moves (attributes_move ts a) (access_moves ts b) (inner_node_moves ts r) in
       reads_turns_more ⊥ ts (in_braces limits nodes) (inner_more limits nodes fields) count list (list ++ inner_member xs v x ∷ []) all from seen at to (ap not (opens_inside (inner_begins_as limits nodes fields) refl a b (inner_opens (Unit {0}) tt ts limits nodes r)))
       (λ s1. reads_inner_more list a b r s1 (one_in limits list (inner_member xs v x) (inner_front l) (long_in ts limits nodes u in_inner_member all f))
-      (record { sizes = one_keeps in_inner_member list (inner_member xs v x) (inner_front l) (right _ _ f); rules = one_obeys inner_member_obeys list (inner_member xs v x) (inner_front l) o }))
+      (record { sizes = one_keeps in_inner_member list (inner_member xs v x) (inner_front l) (right _ _ f); rules = one_obeys inner_member_obeys limits.free list (inner_member xs v x) (inner_front l) o }))
       (λ s1. reads_inner_members l count s1 (left_next ts count from at moves u1) f o)
 
-  pub reads_inner : {fields : Bool} {all : List InnerMember} {from to : ℕ} → InnerMembersAt ts fields [] all from to → (seen : ℕ) → Fit (λ count. in_items count (in_inner_member count) all) → all_true (map inner_member_obeys all) ≡ true → Reads ⊥ (inner_members limits nodes fields) ts from seen all to
+  pub reads_inner : {fields : Bool} {all : List InnerMember} {from to : ℕ} → InnerMembersAt ts fields [] all from to → (seen : ℕ) → Fit (λ count. in_items count (in_inner_member count) all) → (limits.free || all_true (map inner_member_obeys all)) ≡ true → Reads ⊥ (inner_members limits nodes fields) ts from seen all to
   unfolding inner_members
   reads_inner {from = from} r seen f o = reads_inner_members r limits.turns seen (left_all u from) f o
 
@@ -156,7 +156,7 @@ module _ (ts : List Lexed) (limits : Limits) (nodes : ℕ) (u : Enough ts limits
       (λ s3. reads_bind ⊥ ts (constraints limits) _ at s3 to (to + 1) wheres z (reads_constraints ts limits nodes u c s3 (right _ _ last))
       (λ s4. reads_bind ⊥ ts (expect m.OpenBrace) _ to s4 (to + 1) (to + 1) p z (reads_expect ⊥ ts m.OpenBrace p to s4 o) (λ s5. reads_pure ⊥ ts z (to + 1) s5)))))
 
-  reads_member_node : {x : MemberNode} {from to : ℕ} → MemberNodeAt ts x from to → (list : Noted) (seen : ℕ) → May (member_target x) list → Fit (λ count. in_member_node count x) → member_node_obeys x ≡ true → Reads ⊥ (member_node limits nodes list) ts from seen x to
+  reads_member_node : {x : MemberNode} {from to : ℕ} → MemberNodeAt ts x from to → (list : Noted) (seen : ℕ) → May limits (member_target x) list → Fit (λ count. in_member_node count x) → (limits.free || member_node_obeys x) ≡ true → Reads ⊥ (member_node limits nodes list) ts from seen x to
   unfolding member_node member_typed inner_struct_rest
   reads_member_node {to = to} (t.struct {x = x} (t.inner_struct {mid = mid} {at = at} {p = p} {end = end} {id = id} {generics = all} {heads = bases} {wheres = wheres} {members = members} s h r c)) list seen m f obeyed =
       reads_worded ts limits n.Struct (inner_struct_rest limits nodes p) (λ x. member_as limits nodes list x (use_of x)) x to target.Other list m s refl
@@ -186,12 +186,12 @@ module _ (ts : List Lexed) (limits : Limits) (nodes : ℕ) (u : Enough ts limits
   unfolding member_one
   reads_member_one {xs = xs} {v = v} {x = x} {from = from} {mid = mid} {at = at} {to = to} a b r seen f =
       let named : Fit (λ count. in_attributes count xs) = left _ _ f.sizes in
-      let read = attributes_read ts limits (member_target x) attributes.members (before_member x) a u (and_left (obeys (member_target x) xs) (member_node_obeys x) f.rules) named.short in
+      let read = attributes_read ts limits (member_target x) attributes.members (before_member x) a u (or_left limits.free (obeys (member_target x) xs) (member_node_obeys x) f.rules) named.short in
       let given : Given = (xs, read.0) in
       let z = member_of xs v x in
       reads_bind ⊥ ts (attributes.attributes limits attributes.members) _ from seen mid to given z (read.2 seen)
       (λ s1. reads_bind ⊥ ts access _ mid s1 at to v z (reads_access ⊥ ts b s1)
-      (λ s2. reads_bind ⊥ ts (member_node limits nodes given.1) _ at s2 to to x z (reads_member_node r given.1 s2 read.1 (right _ _ f.sizes) (and_right (obeys (member_target x) xs) (member_node_obeys x) f.rules)) (λ s3. reads_pure ⊥ ts z to s3)))
+      (λ s2. reads_bind ⊥ ts (member_node limits nodes given.1) _ at s2 to to x z (reads_member_node r given.1 s2 read.1 (right _ _ f.sizes) (or_right limits.free (obeys (member_target x) xs) (member_node_obeys x) f.rules)) (λ s3. reads_pure ⊥ ts z to s3)))
 
   reads_member_more : (list : List Member) {xs : List Attribute} {v : Option Access} {x : MemberNode} {from mid at to : ℕ} → AttributesAt ts [] xs from mid → AccessAt ts v mid at → MemberNodeAt ts x at to → (seen : ℕ) → length list < limits.items → MemberFits limits nodes (member_of xs v x) →
       Reads ⊥ (member_more limits nodes list) ts from seen (list ++ member_of xs v x ∷ []) to
@@ -209,19 +209,19 @@ module _ (ts : List Lexed) (limits : Limits) (nodes : ℕ) (u : Enough ts limits
   members_front (t.end c) = whole
   members_front (t.more {attributes = xs} {access = v} {x = x} a b r l) = longer (member_of xs v x) (members_front l)
 
-  reads_members : {list all : List Member} {from to : ℕ} → MembersAt ts list all from to → (count seen : ℕ) → Left ts count from → Fit (λ count. in_items count (in_member count) all) → all_true (map member_obeys all) ≡ true → Reads ⊥ (turns (in_braces limits nodes) (member_more limits nodes) count list) ts from seen all to
+  reads_members : {list all : List Member} {from to : ℕ} → MembersAt ts list all from to → (count seen : ℕ) → Left ts count from → Fit (λ count. in_items count (in_member count) all) → (limits.free || all_true (map member_obeys all)) ≡ true → Reads ⊥ (turns (in_braces limits nodes) (member_more limits nodes) count list) ts from seen all to
   reads_members {list = list} {from = from} (t.end {p = p} c) count seen u1 f o = reads_turns_end ⊥ ts (in_braces limits nodes) (member_more limits nodes) count list from seen (ap not (is_there ts m.CloseBrace from p c))
   reads_members {from = from} (t.more a b r l) zero seen u1 f o = let opened = member_opens (Unit {0}) tt ts limits nodes r in let begin = begins_somewhere a b (opened.tok, opened.is) in absurd (left_none ts from begin.0 begin.1 u1)
   reads_members {list = list} {all = all} {from = from} {to = to} (t.more {at = at} {attributes = xs} {access = v} {x = x} a b r l) (suc count) seen u1 f o =
       let moves = member_moves (attributes_move ts a) (access_moves ts b) (member_node_moves ts r) in
       reads_turns_more ⊥ ts (in_braces limits nodes) (member_more limits nodes) count list (list ++ member_of xs v x ∷ []) all from seen at to (ap not (opens_inside (member_begins_as limits nodes) refl a b (member_opens (Unit {0}) tt ts limits nodes r)))
       (λ s1. reads_member_more list a b r s1 (one_in limits list (member_of xs v x) (members_front l) (long_in ts limits nodes u in_member all f))
-      (record { sizes = one_keeps in_member list (member_of xs v x) (members_front l) (right _ _ f); rules = one_obeys member_obeys list (member_of xs v x) (members_front l) o }))
+      (record { sizes = one_keeps in_member list (member_of xs v x) (members_front l) (right _ _ f); rules = one_obeys member_obeys limits.free list (member_of xs v x) (members_front l) o }))
       (λ s1. reads_members l count s1 (left_next ts count from at moves u1) f o)
 
   -- behind its word
   pub reads_struct : (begin : Place) {id : Identifier} {all : List GenericParameter} {bases : List Identifier} {wheres : List Constraint} {members : List Member} {end : Place} {from mid at to : ℕ} →
-      StructHeadAt ts id all bases wheres from mid → MembersAt ts [] members mid at → ClosedAt ts end at to → (seen : ℕ) → Fit (λ count. in_struct count (struct_of (span begin end) id all bases wheres members)) → all_true (map member_obeys members) ≡ true →
+      StructHeadAt ts id all bases wheres from mid → MembersAt ts [] members mid at → ClosedAt ts end at to → (seen : ℕ) → Fit (λ count. in_struct count (struct_of (span begin end) id all bases wheres members)) → (limits.free || all_true (map member_obeys members)) ≡ true →
       Reads ⊥ (struct_rest limits nodes begin) ts from seen (struct_of (span begin end) id all bases wheres members) to
   unfolding struct_rest
   reads_struct begin {id = id} {all = all} {bases = bases} {wheres = wheres} {members = members} {end = end} {from = from} {mid = mid} {at = at} {to = to} h r c seen f o =

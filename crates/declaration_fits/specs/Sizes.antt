@@ -1,6 +1,6 @@
 -- How many nodes stand on a path of a declaration, how long its lists and its names are, which rules its attributes obey, and
 -- what it is to keep the limits. Names behind `where` and `:`, fields, imports and items make lists of any length.
-use Rattle.std.specs.Prelude.{ℕ, max, ◌≡◌, Bool, true, ◌&&◌, if◌then◌else◌, List, length, map}
+use Rattle.std.specs.Prelude.{ℕ, max, ◌≡◌, Bool, true, ◌||◌, ◌&&◌, if◌then◌else◌, List, length, map}
 use Rattle.slang_tree.specs.declared.types.Identifier.{Identifier}
 use Rattle.slang_tree.specs.declared.statements.Block.{Block}
 use Rattle.slang_tree.specs.declared.declarations.GenericParameter.{GenericParameter}
@@ -208,26 +208,26 @@ item_obeys x = obeys (item_target x.node) x.attributes && item_node_obeys x.node
 
 pub record FunctionFits (limits : Limits) (nodes : ℕ) (x : Function) : Type 0 where
   pub sizes : Keeps limits nodes (λ count. in_function count x)
-  pub rules : block_obeys x.body ≡ true
+  pub rules : (limits.free || block_obeys x.body) ≡ true
 
 pub record InnerMemberFits (limits : Limits) (nodes : ℕ) (x : InnerMember) : Type 0 where
   pub sizes : Keeps limits nodes (λ count. in_inner_member count x)
-  pub rules : inner_member_obeys x ≡ true
+  pub rules : (limits.free || inner_member_obeys x) ≡ true
 
 pub record MemberFits (limits : Limits) (nodes : ℕ) (x : Member) : Type 0 where
   pub sizes : Keeps limits nodes (λ count. in_member count x)
-  pub rules : member_obeys x ≡ true
+  pub rules : (limits.free || member_obeys x) ≡ true
 
 pub record RequirementFits (limits : Limits) (nodes : ℕ) (x : Requirement) : Type 0 where
   pub sizes : Keeps limits nodes (λ count. in_requirement count x)
-  pub rules : requirement_obeys x ≡ true
+  pub rules : (limits.free || requirement_obeys x) ≡ true
 
 pub record ItemFits (limits : Limits) (nodes : ℕ) (x : Item) : Type 0 where
   pub sizes : Keeps limits nodes (λ count. in_item count x)
-  pub rules : item_obeys x ≡ true
+  pub rules : (limits.free || item_obeys x) ≡ true
 
 -- at most so many nodes stand on a path, no list and no name is longer than the limit, and all attributes may stand where
--- they do
+-- they do, if the limits are not free
 pub record FileFits (limits : Limits) (nodes : ℕ) (x : File) : Type 0 where
   pub sizes : Keeps limits nodes (λ count. in_file count x)
-  pub rules : all_true (map item_obeys x.items) ≡ true
+  pub rules : (limits.free || all_true (map item_obeys x.items)) ≡ true

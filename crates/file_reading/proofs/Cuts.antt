@@ -12,6 +12,10 @@ use Rattle.slang_tokens.specs.Cutting.{place, Cut, Tokens, Refuses}
 use Rattle.slang_names.specs.declared.faults.ModuleFault.{ModuleFault}
 use Rattle.slang_names.specs.declared.faults.ModuleFault.TheVariants as f
 use Rattle.slang_reading.specs.Lexed.{lexed_all, lexed}
+use Rattle.slang_reading.specs.Cursor.{Cursor}
+use Rattle.type_reading.specs.declared.limits.Limits.{Limits}
+use Rattle.ahead_reading.specs.declared.scans.Scans.{Scans}
+use Rattle.ahead_reading.specs.Knowing.{Knows, Ready}
 use Rattle.file_reading.specs.Wholes as spec
 
 -- ---- no more tokens than bytes
@@ -30,6 +34,13 @@ few text ts t = let h = few_from text 0 ts (omega arith) t in omega arith
 
 pub few_lexed : (text : List ℕ) (ts : List Token) (most : ℕ) → length ts ≤ most → length (lexed_all text ts) ≤ most
 few_lexed text ts most h = let d = length-map ts (lexed text) in omega arith
+
+-- a text within the limit leaves as many turns as there are tokens
+pub ready : (text : List ℕ) (ts : List Token) (scans : Scans) (shown : Cursor) → shown ≡ record { tokens = lexed_all text ts; at = 0; seen = 0 } →
+    length ts ≤ length text → length text ≤ 1048576 → Knows scans (lexed_all text ts) → Ready (record { turns = 1048576; items = 256; names = 64 }) scans shown.tokens
+unfolding Ready
+ready text ts scans shown e few room k =
+    subst (λ (n : Cursor). (length n.tokens ≤ 1048576) × Knows scans n.tokens) (sym e) (few_lexed text ts 1048576 (omega arith), k)
 
 -- ---- one refusal
 

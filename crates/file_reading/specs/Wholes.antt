@@ -1,5 +1,5 @@
 -- What a text that is cut into tokens is answered.
-use Rattle.std.specs.Prelude.{◌≡◌, ℕ, List, drop, Option, Some, None, Result, Ok, Err}
+use Rattle.std.specs.Prelude.{◌≡◌, ℕ, ◌-◌, List, drop, length, Option, Some, None, Result, Ok, Err}
 use Rattle.slang_names.specs.declared.places.Place.{Place}
 use Rattle.slang_names.specs.declared.codes.ModuleCode.{ModuleCode}
 use Rattle.slang_names.specs.declared.codes.ModuleCode.TheVariants as code
@@ -8,11 +8,9 @@ use Rattle.slang_names.specs.declared.faults.ModuleFault.TheVariants as f
 use Rattle.slang_tree.specs.declared.file.File.{File}
 use Rattle.slang_tokens.specs.declared.tokens.Token.{Token}
 use Rattle.slang_reading.specs.Lexed.{lexed_all}
-use Rattle.slang_reading.specs.Reading.{Outcome, first}
+use Rattle.slang_reading.specs.Reading.{Outcome, Done, Stop, Past, first}
 use Rattle.type_reading.specs.Limited.{language}
 use Rattle.declaration_grammar.specs.DeclarationsDescent.{files}
-use Rattle.furthest_reading.specs.declared.verdicts.Verdict.{Verdict}
-use Rattle.furthest_reading.specs.declared.verdicts.Verdict.TheVariants.{Spelled, Wrong, Broken}
 
 -- where a token lies, or the empty place at the end of a text of so many bytes
 abbrev pub lies : Option Token → ℕ → Place
@@ -31,11 +29,11 @@ Answers file (Ok x) = x ≡ file
 Answers file (Err (f.Refused p c)) = ⊥
 Answers file (Err (f.Memory e)) = Unit {0}
 
--- what comes of a verdict on these tokens of a text of so many bytes
-abbrev pub Follows : List Token → ℕ → Verdict → Result File ModuleFault → Type 0
-Follows tokens end (Spelled file) = Answers file
-Follows tokens end (Wrong at) = Refuses (lies (first (drop at tokens)) end) code.Syntax
-Follows tokens end (Broken code place) = Refuses place code
+-- what comes of the descent into these tokens of a text of so many bytes
+abbrev pub Follows : List Token → ℕ → Outcome File → Result File ModuleFault → Type 0
+Follows tokens end (Done file at seen) = Answers file
+Follows tokens end (Stop seen) = Refuses (lies (first (drop (seen - 1) tokens)) end) code.Syntax
+Follows tokens end (Past code place seen) = Refuses place code
 
 -- what the descent makes of a text with these tokens, with the limits of the language and 64 nodes on a path
 abbrev pub outcome : List ℕ → List Token → Outcome File

@@ -43,8 +43,9 @@ use Rattle.declaration_grammar.specs.Declarations.{item_of}
 use Rattle.declaration_grammar.specs.DeclarationsDescent.{use_of, begins_parameters, TypeName, type_name, function_rest, type_def, type_alias, in_braces, inner_members, struct_rest, bound_by, associated, required, associated_as, requirement_as, requirement, requirement_begins, requirement_choice, requirement_more, interface_rest, extended_name, extended_more, extended_rest, extended_by, extended, extension_rest, constant_rest, item_typed_by, item_typed, item_as, item_node, item_access, item_more, line_rest, module_by, module_line, import_more, is_token, files}
 use Rattle.statement_fits.specs.Sizes.{Count, optional, in_attributes, Keeps}
 use Rattle.statement_fits.proofs.Fitting.{and_both}
+use Rattle.statement_fits.proofs.Attributes.{free_or}
 use Rattle.declaration_fits.specs.Sizes.{in_items, in_generic, in_constraint, in_parameter, in_alias, in_inner_member, in_head, in_struct, in_requirement_node, in_requirement, in_interface, in_extension, in_constant, in_item_node, in_item, in_line, method_target, inner_member_obeys, member_obeys, requirement_obeys, item_target, item_node_obeys, item_obeys, RequirementFits, FileFits}
-use Rattle.nesting_laws.proofs.TypesLow.{fits_less, Any}
+use Rattle.nesting_laws.proofs.TypesLow.{or_is, fits_less, Any}
 use Rattle.fitting_laws.proofs.Types.{choice_weaken, short_named}
 use Rattle.fitting_laws.proofs.Within.{nothing_keeps, both_keep, All, keep_none, keep_more, keep_expressions}
 use Rattle.fitting_laws.proofs.Attributes.{Taken, taken_obeys, taken_attributes, attributes_keep}
@@ -79,7 +80,7 @@ module _ (ts : List Lexed) (limits : Limits) (is_free : limits.free ≡ false) (
   fit_associated begin at seen = post_bind ts IsName IsRequirement (name limits) _ at seen (keep_name ts limits is_free nodes at seen)
       (λ id a1 s1 h. post_bind ts IsBound IsRequirement (next (λ x. bound_by limits nodes (sees m.Colon x))) _ a1 s1 (keep_bound a1 s1)
       (λ b a2 s2 g. post_bind ts Any IsRequirement (expect m.Semicolon) _ a2 s2 (post_unit (expect m.Semicolon ts a2 s2))
-      (λ end to s3 o. record { sizes = both_keep limits nodes (λ count. count.of_identifier id) (λ count. optional count.of_identifier b) h g; rules = refl })))
+      (λ end to s3 o. record { sizes = both_keep limits nodes (λ count. count.of_identifier id) (λ count. optional count.of_identifier b) h g; rules = free_or limits.free true refl })))
 
   -- attributes before a function that is required
   abbrev Before : Bool → List Attribute → Type 0
@@ -97,7 +98,7 @@ module _ (ts : List Lexed) (limits : Limits) (is_free : limits.free ≡ false) (
   unfolding required
   fit_required list is_static begin x at seen b r = post_bind ts HasParameters IsRequirement (parameters limits nodes) _ at seen (keep_parameters ts limits is_free nodes at seen)
       (λ p a1 s1 q. post_bind ts Any IsRequirement (expect m.Semicolon) _ a1 s1 (post_unit (expect m.Semicolon ts a1 s1))
-      (λ end to s2 o. record { sizes = required_keeps list is_static x.0 x.1 p b.0 r q; rules = b.1 }))
+      (λ end to s2 o. record { sizes = required_keeps list is_static x.0 x.1 p b.0 r q; rules = free_or limits.free _ b.1 }))
 
   fit_associated_as : (list : List Attribute) (at : ℕ) (x : Option Lexed) → PostChoice ts IsRequirement at x (associated_as limits nodes list (place_of x))
   fit_associated_as [] at x = post_take ts IsRequirement at x (associated limits nodes (place_of x)) (λ s. fit_associated (place_of x) (at + 1) s)
@@ -138,7 +139,7 @@ module _ (ts : List Lexed) (limits : Limits) (is_free : limits.free ≡ false) (
   fit_requirement_more list at seen = post_bind ts (NextRequired (length list)) (λ b to. MoreRequired list b at to) (next _) _ at seen
       (post_next ts (NextRequired (length list)) _ at seen (λ x e. post_fits ts (NextRequired (length list)) at x (fits_in limits (length list) limits.items) code.TooLong (requirement_choice limits nodes x (requirement_begins limits nodes x))
       (λ f. choice_weaken ts IsRequirement (NextRequired (length list)) (λ a to r. (fits_less limits (length list) limits.items is_free f, r)) at x (requirement_choice limits nodes x (requirement_begins limits nodes x)) (by x (requirement_begins limits nodes x)))))
-      (λ y to s1 r a. (short_more limits nodes in_requirement list y r.0 r.1.sizes a.0, rule_longer requirement_obeys list y a.1 r.1.rules))
+      (λ y to s1 r a. (short_more limits nodes in_requirement list y r.0 r.1.sizes a.0, rule_longer requirement_obeys list y a.1 (or_is limits.free (requirement_obeys y) is_free r.1.rules)))
     where
       by : (x : Option Lexed) (b : Bool) → PostChoice ts IsRequirement at x (requirement_choice limits nodes x b)
       by x true = λ s. fit_requirement at s
@@ -325,5 +326,5 @@ module _ (ts : List Lexed) (limits : Limits) (is_free : limits.free ≡ false) (
       (λ items to s3 q. let r = q (keep_none limits in_item nodes, refl) in record {
         sizes = both_keep limits nodes (λ count. optional (in_line count) line) (λ count. max (greatest (map (in_line count) imports)) (greatest (map (in_item count) items))) lr
             (both_keep limits nodes (λ count. greatest (map (in_line count) imports)) (λ count. greatest (map (in_item count) items)) (ir (keep_none limits in_line nodes)) r.0);
-        rules = r.1;
+        rules = free_or limits.free _ r.1;
       })))

@@ -44,8 +44,9 @@ use Rattle.declaration_grammar.specs.PartsDescent.{access, generics, heads, cons
 use Rattle.declaration_grammar.specs.DeclarationsDescent.{use_of, begins_parameters, TypeName, type_name, function_rest, static_rest, type_def, type_alias, field_more, field_rest, goes_on_field, in_braces, inner_typed_by, inner_typed, inner_as, inner_node, inner_one, inner_begins, inner_choice, inner_more, inner_members, Head, struct_head, inner_struct_rest, member_typed_by, member_typed, member_as, member_node, member_one, member_begins, member_choice, member_more, struct_rest}
 use Rattle.statement_fits.specs.Sizes.{Count, in_attributes, in_block, Keeps, BlockFits}
 use Rattle.statement_fits.proofs.Fitting.{and_both}
+use Rattle.statement_fits.proofs.Attributes.{free_or}
 use Rattle.declaration_fits.specs.Sizes.{in_items, in_generic, in_constraint, in_parameter, in_function, in_alias, in_field, in_inner_node, in_inner_member, in_head, in_inner_struct, in_member_node, in_member, in_struct, method_target, block_obeys, inner_target, inner_node_obeys, inner_member_obeys, member_target, member_node_obeys, member_obeys, InnerMemberFits, MemberFits}
-use Rattle.nesting_laws.proofs.TypesLow.{fits_less, Any}
+use Rattle.nesting_laws.proofs.TypesLow.{or_is, fits_less, Any}
 use Rattle.fitting_laws.proofs.Types.{choice_weaken}
 use Rattle.fitting_laws.proofs.Within.{both_keep, All, keep_more, keep_one, keep_types}
 use Rattle.fitting_laws.proofs.Attributes.{Taken, taken_obeys, taken_attributes, attributes_keep}
@@ -108,7 +109,7 @@ module _ (ts : List Lexed) (limits : Limits) (is_free : limits.free ≡ false) (
       (λ g a1 s1 gr. post_bind ts HasParameters Q (parameters limits nodes) _ a1 s1 (keep_parameters ts limits is_free nodes a1 s1)
       (λ p a2 s2 pr. post_bind ts HasConstraints Q (constraints limits) _ a2 s2 (keep_constraints ts limits is_free nodes a2 s2)
       (λ c a3 s3 cr. post_bind ts IsBody Q (blocks limits nodes) _ a3 s3 (fit_blocks ts limits is_free nodes a3 s3)
-      (λ b to s4 br. (function_keeps begin is_static x.0 x.1 g p c b r gr pr cr br.sizes, br.rules, refl)))))
+      (λ b to s4 br. (function_keeps begin is_static x.0 x.1 g p c b r gr pr cr br.sizes, or_is limits.free (block_obeys b) is_free br.rules, refl)))))
 
   fit_static_rest : (begin : Place) (at seen : ℕ) → Post (IsFunction true) (static_rest limits nodes begin ts at seen)
   unfolding static_rest
@@ -207,7 +208,7 @@ module _ (ts : List Lexed) (limits : Limits) (is_free : limits.free ≡ false) (
         (λ v a2 s2 o. post_bind ts (IsInner a.1) IsInnerMember (inner_node limits nodes fields a.1) _ a2 s2 (fit_inner_node a.1 a2 s2)
         (λ x to s3 r. record {
           sizes = both_keep limits nodes (λ count. in_attributes count a.0) (λ count. in_inner_node count x) (attributes_keep limits nodes a.0 t.short) r.0;
-          rules = and_both (obeys (inner_target x) a.0) (inner_node_obeys x) (taken_obeys limits attributes.members a (inner_target x) t r.2) r.1;
+          rules = free_or limits.free _ (and_both (obeys (inner_target x) a.0) (inner_node_obeys x) (taken_obeys limits attributes.members a (inner_target x) t r.2) r.1);
         })))
 
     abbrev NextInner : ℕ → InnerMember → ℕ → Type 0
@@ -221,7 +222,7 @@ module _ (ts : List Lexed) (limits : Limits) (is_free : limits.free ≡ false) (
     fit_inner_more list at seen = post_bind ts (NextInner (length list)) (λ b to. MoreInner list b at to) (next _) _ at seen
         (post_next ts (NextInner (length list)) _ at seen (λ x e. post_fits ts (NextInner (length list)) at x (fits_in limits (length list) limits.items) code.TooLong (inner_choice limits nodes fields x (inner_begins limits nodes fields x))
         (λ f. choice_weaken ts IsInnerMember (NextInner (length list)) (λ a to r. (fits_less limits (length list) limits.items is_free f, r)) at x (inner_choice limits nodes fields x (inner_begins limits nodes fields x)) (by x (inner_begins limits nodes fields x)))))
-        (λ y to s1 r a. (short_more limits nodes in_inner_member list y r.0 r.1.sizes a.0, rule_longer inner_member_obeys list y a.1 r.1.rules))
+        (λ y to s1 r a. (short_more limits nodes in_inner_member list y r.0 r.1.sizes a.0, rule_longer inner_member_obeys list y a.1 (or_is limits.free (inner_member_obeys y) is_free r.1.rules)))
       where
         by : (x : Option Lexed) (b : Bool) → PostChoice ts IsInnerMember at x (inner_choice limits nodes fields x b)
         by x true = λ s. fit_inner_one at s
@@ -302,7 +303,7 @@ module _ (ts : List Lexed) (limits : Limits) (is_free : limits.free ≡ false) (
       (λ v a2 s2 o. post_bind ts (IsNode a.1) IsMember (member_node limits nodes a.1) _ a2 s2 (fit_member_node a.1 a2 s2)
       (λ x to s3 r. record {
         sizes = both_keep limits nodes (λ count. in_attributes count a.0) (λ count. in_member_node count x) (attributes_keep limits nodes a.0 t.short) r.0;
-        rules = and_both (obeys (member_target x) a.0) (member_node_obeys x) (taken_obeys limits attributes.members a (member_target x) t r.2) r.1;
+        rules = free_or limits.free _ (and_both (obeys (member_target x) a.0) (member_node_obeys x) (taken_obeys limits attributes.members a (member_target x) t r.2) r.1);
       })))
 
   abbrev NextMember : ℕ → Member → ℕ → Type 0
@@ -319,7 +320,7 @@ module _ (ts : List Lexed) (limits : Limits) (is_free : limits.free ≡ false) (
   fit_member_more list at seen = post_bind ts (NextMember (length list)) (λ b to. MoreMembers list b at to) (next _) _ at seen
       (post_next ts (NextMember (length list)) _ at seen (λ x e. post_fits ts (NextMember (length list)) at x (fits_in limits (length list) limits.items) code.TooLong (member_choice limits nodes x (member_begins limits nodes x))
       (λ f. choice_weaken ts IsMember (NextMember (length list)) (λ a to r. (fits_less limits (length list) limits.items is_free f, r)) at x (member_choice limits nodes x (member_begins limits nodes x)) (by x (member_begins limits nodes x)))))
-      (λ y to s1 r a. (short_more limits nodes in_member list y r.0 r.1.sizes a.0, rule_longer member_obeys list y a.1 r.1.rules))
+      (λ y to s1 r a. (short_more limits nodes in_member list y r.0 r.1.sizes a.0, rule_longer member_obeys list y a.1 (or_is limits.free (member_obeys y) is_free r.1.rules)))
     where
       by : (x : Option Lexed) (b : Bool) → PostChoice ts IsMember at x (member_choice limits nodes x b)
       by x true = λ s. fit_member_one at s

@@ -32,8 +32,9 @@ use Rattle.statement_grammar.specs.AttributeTables.{may_stand}
 use Rattle.statement_grammar.specs.AttributeRules.{obeys, all_true, stat_obeys}
 use Rattle.statement_fits.specs.Sizes.{Count, optional, in_local, in_change, in_attributes, in_head, in_stat, Keeps, StatFits, BlockFits}
 use Rattle.statement_fits.proofs.Fitting.{and_left, and_right, and_both}
+use Rattle.statement_fits.proofs.Attributes.{free_or}
 use Rattle.statement_fits.proofs.Nodes.{of_block, of_local, of_change, of_if, of_else, of_for, of_while, of_return, rules_block, rules_if, rules_else, rules_for, rules_while, StatsFit}
-use Rattle.nesting_laws.proofs.TypesLow.{Any}
+use Rattle.nesting_laws.proofs.TypesLow.{or_is, Any}
 use Rattle.nesting_laws.proofs.Locals.{no_fit, one_fits}
 use Rattle.fitting_laws.proofs.Within.{nothing_keeps, more_room, both_keep, node_keeps, keep_none, keep_more}
 use Rattle.fitting_laws.proofs.Attributes.{Taken, taken_obeys, taken_attributes, attributes_keep}
@@ -78,9 +79,13 @@ or_none : (b : Bool) → (b || false) ≡ true → b ≡ true
 or_none true h = refl
 or_none false h = h
 
+or_two : (f a b c : Bool) → (a ≡ true → b ≡ true → c ≡ true) → (f || a) ≡ true → (f || b) ≡ true → (f || c) ≡ true
+or_two true a b c g h i = refl
+or_two false a b c g h i = g h i
+
 module _ (limits : Limits) where
   stats_longer : (d : ℕ) (xs : List StatTree) (x : StatTree) → StatsFit limits d xs → StatFits limits d x → StatsFit limits d (xs ++ x ∷ [])
-  stats_longer d xs x v w = record { sizes = keep_more limits in_stat d xs x v.sizes w.sizes; rules_ = true_longer xs x v.rules_ w.rules }
+  stats_longer d xs x v w = record { sizes = keep_more limits in_stat d xs x v.sizes w.sizes; rules_ = or_two limits.free (all_true (map stat_obeys xs)) (stat_obeys x) (all_true (map stat_obeys (xs ++ x ∷ []))) (true_longer xs x) v.rules_ w.rules }
 
   -- attributes before a loop
   abbrev Before : ℕ → List Attribute → Type 0
@@ -94,7 +99,7 @@ module _ (limits : Limits) where
 
   -- a statement with these parts
   stands : (d top : ℕ) (x : StatTree) (f : Count → ℕ) → suc d ≤ top → ((count : Count) → in_stat count x ≡ count.over (f count)) → stat_obeys x ≡ true → Keeps limits d f → StatFits limits top x
-  stands d top x f g e o w = record { sizes = more_room limits (suc d) top (λ count. in_stat count x) g (node_keeps limits d f (λ count. in_stat count x) e w); rules = o }
+  stands d top x f g e o w = record { sizes = more_room limits (suc d) top (λ count. in_stat count x) g (node_keeps limits d f (λ count. in_stat count x) e w); rules = free_or limits.free (stat_obeys x) o }
 
 module _ (ts : List Lexed) (limits : Limits) (is_free : limits.free ≡ false) where
   module _ (room : Bool) (d : ℕ) (inner : Parser StatTree) (top : ℕ) (fits : room ≡ true → suc d ≤ top) (hs : (at seen : ℕ) → Post (λ (x : StatTree) (to : ℕ). StatFits limits d x) (inner ts at seen)) where
@@ -118,13 +123,13 @@ module _ (ts : List Lexed) (limits : Limits) (is_free : limits.free ≡ false) w
     unfolding stats
     fit_stats at seen = post_bind ts (λ all to. HasMore [] all at to) HasStats (turns (in_block limits room d inner) (stat_more limits room d inner) limits.turns []) _ at seen
         (post_turns ts HasMore HasMore (in_block limits room d inner) (stat_more limits room d inner) (λ list at r. r) (λ a b c from mid to o r q. r (o q)) (λ list from s1 e. fit_stat_more list from s1) limits.turns [] at seen)
-        (λ all mid s1 r. post_bind ts Any HasStats (expect m.CloseBrace) _ mid s1 (post_unit (expect m.CloseBrace ts mid s1)) (λ p to s2 z. r (record { sizes = keep_none limits in_stat d; rules_ = refl })))
+        (λ all mid s1 r. post_bind ts Any HasStats (expect m.CloseBrace) _ mid s1 (post_unit (expect m.CloseBrace ts mid s1)) (λ p to s2 z. r (record { sizes = keep_none limits in_stat d; rules_ = free_or limits.free true refl })))
 
     module _ (g : suc d ≤ top) where
       fit_block_rest : (begin : Place) (at seen : ℕ) → Post IsStat (block_rest limits room d inner begin ts at seen)
       unfolding block_rest
       fit_block_rest begin at seen = post_bind ts HasStats IsStat (stats limits room d inner) _ at seen (fit_stats at seen)
-          (λ x to s1 r. let p = span begin x.1 in stands limits d top (stated p (s.Block x.0)) (λ count. greatest (map (in_stat count) x.0)) g (λ count. of_block count p x.0) (rules_block p x.0 ∙ r.rules_) r.sizes)
+          (λ x to s1 r. let p = span begin x.1 in stands limits d top (stated p (s.Block x.0)) (λ count. greatest (map (in_stat count) x.0)) g (λ count. of_block count p x.0) (rules_block p x.0 ∙ or_is limits.free (all_true (map stat_obeys x.0)) is_free r.rules_) r.sizes)
 
       of_simple : (x : Simple) (to : ℕ) (end : Place) → IsSimple ts limits is_free d x to → StatFits limits top (simple_stated limits d x end)
       of_simple (IsLocal x) to end r = let p = span x.place end in stands limits d top (stated p (s.Local x)) (λ count. in_local count x) g (λ count. of_local count p x) (rules_local p x) r
@@ -143,9 +148,9 @@ module _ (ts : List Lexed) (limits : Limits) (is_free : limits.free ≡ false) w
           by : (x : ExprTree) → Keeps limits d (λ count. count.of_value x) → (y : StatTree) (to : ℕ) → StatFits limits d y → (z : Option Lexed) (b : Bool) → PostChoice ts IsStat to z (else_by limits room d inner begin x y b)
           by x r y to v z true = post_take ts IsStat to z _ (λ s3. post_bind ts Inner IsStat inner _ (to + 1) s3 (hs (to + 1) s3)
               (λ c last s4 h. let p = span begin c.place in stands limits d top (stated p (s.IfElse x y c)) (λ count. max (count.of_value x) (max (in_stat count y) (in_stat count c))) g
-              (λ count. of_else count p x y c) (rules_else p x y c ∙ and_both (stat_obeys y) (stat_obeys c) v.rules h.rules)
+              (λ count. of_else count p x y c) (rules_else p x y c ∙ and_both (stat_obeys y) (stat_obeys c) (or_is limits.free (stat_obeys y) is_free v.rules) (or_is limits.free (stat_obeys c) is_free h.rules))
               (both_keep limits d (λ count. count.of_value x) (λ count. max (in_stat count y) (in_stat count c)) r (both_keep limits d (λ count. in_stat count y) (λ count. in_stat count c) v.sizes h.sizes))))
-          by x r y to v z false = λ s3. let p = span begin y.place in stands limits d top (stated p (s.If x y)) (λ count. max (count.of_value x) (in_stat count y)) g (λ count. of_if count p x y) (rules_if p x y ∙ v.rules)
+          by x r y to v z false = λ s3. let p = span begin y.place in stands limits d top (stated p (s.If x y)) (λ count. max (count.of_value x) (in_stat count y)) g (λ count. of_if count p x y) (rules_if p x y ∙ or_is limits.free (stat_obeys y) is_free v.rules)
               (both_keep limits d (λ count. count.of_value x) (λ count. in_stat count y) r v.sizes)
 
       fit_for_rest : (list : List Attribute) (begin : Place) (at seen : ℕ) → Before limits d list → Post IsStat (for_rest limits room d inner list begin ts at seen)
@@ -154,7 +159,7 @@ module _ (ts : List Lexed) (limits : Limits) (is_free : limits.free ≡ false) w
           (λ h mid s1 r. post_bind ts Inner IsStat inner _ mid s1 (hs mid s1)
           (λ y to s2 v. let p = span (begin_of list begin) y.place in
           stands limits d top (stated p (s.For list h.0 h.1 h.2 y)) (λ count. max (in_attributes count list) (max (in_head count h.0 h.1 h.2) (in_stat count y))) g (λ count. of_for count p list h.0 h.1 h.2 y)
-          (rules_for p list h.0 h.1 h.2 y ∙ and_both (obeys target.Loop list) (stat_obeys y) o.1 v.rules)
+          (rules_for p list h.0 h.1 h.2 y ∙ and_both (obeys target.Loop list) (stat_obeys y) o.1 (or_is limits.free (stat_obeys y) is_free v.rules))
           (both_keep limits d (λ count. in_attributes count list) (λ count. max (in_head count h.0 h.1 h.2) (in_stat count y)) o.0 (both_keep limits d (λ count. in_head count h.0 h.1 h.2) (λ count. in_stat count y) r v.sizes))))
 
       fit_while_rest : (list : List Attribute) (begin : Place) (at seen : ℕ) → Before limits d list → Post IsStat (while_rest limits room d inner list begin ts at seen)
@@ -163,7 +168,7 @@ module _ (ts : List Lexed) (limits : Limits) (is_free : limits.free ≡ false) w
           (λ x mid s1 r. post_bind ts Inner IsStat inner _ mid s1 (hs mid s1)
           (λ y to s2 v. let p = span (begin_of list begin) y.place in
           stands limits d top (stated p (s.While list x y)) (λ count. max (in_attributes count list) (max (count.of_value x) (in_stat count y))) g (λ count. of_while count p list x y)
-          (rules_while p list x y ∙ and_both (obeys target.Loop list) (stat_obeys y) o.1 v.rules)
+          (rules_while p list x y ∙ and_both (obeys target.Loop list) (stat_obeys y) o.1 (or_is limits.free (stat_obeys y) is_free v.rules))
           (both_keep limits d (λ count. in_attributes count list) (λ count. max (count.of_value x) (in_stat count y)) o.0 (both_keep limits d (λ count. count.of_value x) (λ count. in_stat count y) r v.sizes))))
 
       fit_loop_as : (a : Given) → Before limits d a.0 → (at : ℕ) (tok : Lexed) (v : StatementUse) → PostChoice ts IsStat at (Some tok) (loop_as limits room d inner a tok v)

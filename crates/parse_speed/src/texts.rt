@@ -47,7 +47,7 @@ pub static TEXTS: [Text; 18] = [
         unit: "A<",
         back: "int x;",
     },
-    // generic arguments that come further than the operators that pass a limit
+    // generic arguments that are looked at ahead, past the limit that the operators pass
     Text {
         name: "names that come further",
         front: "void f() { x = a+a<b",

@@ -1,5 +1,5 @@
 -- Which file a text spells, and with which code and at which place a text that spells none is refused.
-use Rattle.std.specs.Prelude.{◌≡◌, ℕ, ◌+◌, ◌<◌, ◌≤◌, ◌++◌, List, length, take, drop}
+use Rattle.std.specs.Prelude.{◌≡◌, ℕ, ◌+◌, ◌-◌, ◌<◌, ◌≤◌, ◌++◌, List, length, take, drop}
 use Rattle.slang_names.specs.declared.places.Place.{Place}
 use Rattle.slang_names.specs.declared.codes.ModuleCode.{ModuleCode}
 use Rattle.slang_names.specs.declared.codes.ModuleCode.TheVariants as code
@@ -7,13 +7,11 @@ use Rattle.slang_tree.specs.declared.file.File.{File}
 use Rattle.slang_tokens.specs.declared.tokens.Token.{Token}
 use Rattle.slang_tokens.specs.Cutting.{Tokens, Refuses}
 use Rattle.slang_reading.specs.Lexed.{Lexed, lexed_all}
-use Rattle.slang_reading.specs.Reading.{first}
+use Rattle.slang_reading.specs.Reading.{Stop, Past, first}
 use Rattle.type_reading.specs.Limited.{language}
 use Rattle.declaration_grammar.specs.Declarations.{FileAt}
 use Rattle.declaration_fits.specs.Sizes.{FileFits}
-use Rattle.furthest_reading.specs.declared.verdicts.Verdict.TheVariants.{Wrong, Broken}
-use Rattle.furthest_reading.specs.Verdicts.{verdict}
-use Rattle.file_reading.specs.Wholes.{lies}
+use Rattle.file_reading.specs.Wholes.{lies, outcome}
 
 -- how many bytes a text may have
 abbrev pub text_limit : ℕ
@@ -40,13 +38,13 @@ pub record FirstWrong (tokens : List Lexed) (at : ℕ) : Type 0 where
   pub no_further : at < length tokens → GoesOn (take (at + 1) tokens) → ⊥
   pub no_file : (file : File) → FileAt tokens file → ⊥
 
--- With that code, at that place, the text is refused: it is too long; its first lexeme that is no token; the first token with
--- which no file goes on, or the empty place at the end of the text; the token at which a limit is passed, or the name of an
+-- With that code, at that place, the text is refused: it is too long; its first lexeme that is no token; the token at which
+-- the descent stops, or the empty place at the end of the text; the token at which it passes a limit, or the name of an
 -- attribute that breaks a rule.
 pub data IsRefused (text : List ℕ) : Place → ModuleCode → Type 0 where
   too_long : text_limit < length text → IsRefused text (record { start = text_limit; end = text_limit }) code.TooLong
   no_token : {place : Place} {c : ModuleCode} → length text ≤ text_limit → Refuses text 0 place c → IsRefused text place c
-  wrong_token : {tokens : List Token} {at : ℕ} → length text ≤ text_limit → Tokens text tokens → verdict text tokens ≡ Wrong at →
-      IsRefused text (lies (first (drop at tokens)) (length text)) code.Syntax
-  past_limit : {tokens : List Token} {place : Place} {c : ModuleCode} → length text ≤ text_limit → Tokens text tokens → verdict text tokens ≡ Broken c place →
+  wrong_token : {tokens : List Token} {seen : ℕ} → length text ≤ text_limit → Tokens text tokens → outcome text tokens ≡ Stop seen →
+      IsRefused text (lies (first (drop (seen - 1) tokens)) (length text)) code.Syntax
+  past_limit : {tokens : List Token} {place : Place} {c : ModuleCode} {seen : ℕ} → length text ≤ text_limit → Tokens text tokens → outcome text tokens ≡ Past c place seen →
       IsRefused text place c

@@ -8,15 +8,11 @@ ghost use Rattle.slang_tokens.specs.declared.tokens.Token.{Token};
 ghost use Rattle.slang_tokens.specs.Cutting.{Tokens};
 ghost use Rattle.slang_reading.specs.Lexed.{Lexed, lexed_all};
 ghost use Rattle.slang_reading.specs.Reading.{Done, Stop, Past};
-ghost use Rattle.slang_grammar.specs.Descent.{Limits};
 ghost use Rattle.type_reading.specs.Limited.{language};
-ghost use Rattle.declaration_fits.specs.Sizes.{FileFits};
 ghost use Rattle.declaration_grammar.specs.Declarations.{FileAt};
 ghost use Rattle.expression_limits.specs.Breaks.{Break};
 ghost use Rattle.statement_limits.specs.Order.{IsKnownFirst};
 ghost use Rattle.declaration_limits.specs.Declarations.{file_break, file_breaks};
-ghost use Rattle.furthest_reading.specs.declared.verdicts.Verdict.TheVariants.{Wrong};
-ghost use Rattle.furthest_reading.specs.Verdicts.{verdict, counted};
 ghost use Rattle.file_reading.specs.Wholes.{outcome};
 ghost use Rattle.slang_parse.specs.Parsing.{Spells, IsRefused, FirstWrong, GoesOn, text_limit};
 
@@ -26,7 +22,6 @@ use declaration_laws::files_are_read;
 use declaration_limits::files_tell_the_limit;
 use fitting_laws::what_is_read_fits;
 use slang_tokens::{cut_or_refused, one_cutting};
-use walk_laws::files_are_walked;
 
 /// A text spells a file within the limits or is refused, and not both; it spells one file, and is refused at one place with
 /// one code. The descent answers the file that is spelled.
@@ -44,29 +39,25 @@ pub fn a_text_is_parsed_or_refused()
     one_cutting();
 }
 
-/// The wrong token that is told of a text is the first with which no file goes on.
+/// Where the descent stops in a text, the last token that it looked at is the first with which no file goes on.
 pub fn wrong_tokens_are_the_first()
-    ensures { (text : List ℕ) (tokens : List Token) (at : ℕ) → length tokens ≤ text_limit → verdict text tokens ≡ Wrong at → FirstWrong (lexed_all text tokens) at }
+    ensures { (text : List ℕ) (tokens : List Token) (seen : ℕ) → outcome text tokens ≡ Stop seen → FirstWrong (lexed_all text tokens) (seen - 1) }
 {
     files_go_on();
-    limits_go_on();
     files_are_read();
-    files_are_walked();
 }
 
-/// Tokens spell one file. Of two files that the same tokens spell, one of which keeps some limits, however large, and the rules
-/// on attributes, both are the same.
+/// Tokens spell one file, whatever limits and rules on attributes it breaks.
 pub fn tokens_spell_one_file()
-    ensures { (ts : List Lexed) (limits : Limits) (nodes : ℕ) (x y : File) → FileAt ts x → FileAt ts y → FileFits limits nodes x
-        → length ts ≤ limits.turns → nodes ≤ limits.turns → limits.items ≤ limits.turns → y ≡ x }
+    ensures { (ts : List Lexed) (x y : File) → FileAt ts x → FileAt ts y → y ≡ x }
 {
     files_are_answered();
     files_are_read();
 }
 
 /// Where the tokens of a text spell a file, the text is parsed exactly where the file breaks no limit and no rule on
-/// attributes, and is else refused with the first that it breaks, or with an attribute left of it that does not fit: no other
-/// is known at an earlier token, and at one token a node that is too deep goes before a list or a name that is too long. Where the descent passes a limit in any text, some file
+/// attributes, and is else refused with the first that it breaks: no other is known at an earlier token, and at one token a
+/// node that is too deep goes before a list or a name that is too long. Where the descent passes a limit in any text, some file
 /// begins with the tokens before the last one that it looked at, ahead or not; and each file of no more than 1,048,576 tokens
 /// that begins with all that it looked at breaks that limit first.
 pub fn the_first_break_is_told()
@@ -74,7 +65,7 @@ pub fn the_first_break_is_told()
         → length text ≤ text_limit → Tokens text tokens → file_break (lexed_all text tokens) language spelled 64 ≡ None → Spells text file }
     ensures broken { (text : List ℕ) (tokens : List Token) (file : File) (spelled : FileAt (lexed_all text tokens) file) (b : Break)
         → length text ≤ text_limit → Tokens text tokens → file_break (lexed_all text tokens) language spelled 64 ≡ Some b
-        → verdict text tokens ≡ counted text tokens b.code b.place }
+        → (seen : ℕ) × (outcome text tokens ≡ Past b.code b.place seen) }
     ensures first { (ts : List Lexed) (file : File) (spelled : FileAt ts file) (b : Break)
         → file_break ts language spelled 64 ≡ Some b → IsKnownFirst ts 0 (length ts) b (file_breaks ts language spelled 64) }
     ensures goes_on { (text : List ℕ) (tokens : List Token) (code : ModuleCode) (place : Place) (seen : ℕ)
@@ -90,8 +81,5 @@ pub fn the_first_break_is_told()
     cut_or_refused();
     one_cutting();
     limits_go_on();
-    files_go_on();
-    files_are_read();
-    files_are_walked();
     files_tell_the_limit();
 }

@@ -13,8 +13,7 @@ ghost use Rattle.type_reading.specs.Limited.{language};
 ghost use Rattle.declaration_grammar.specs.Declarations.{FileAt};
 ghost use Rattle.expression_limits.specs.Breaks.{Break};
 ghost use Rattle.declaration_limits.specs.Declarations.{file_break};
-ghost use Rattle.furthest_reading.specs.Verdicts.{counted};
-ghost use Rattle.file_reading.specs.Wholes.{Answers, Refuses, Follows};
+ghost use Rattle.file_reading.specs.Wholes.{Answers, Refuses};
 ghost use Rattle.slang_parse.specs.Parsing.{Spells, IsRefused, text_limit};
 
 use crate::laws::{a_text_is_parsed_or_refused, the_first_break_is_told};
@@ -45,11 +44,9 @@ pub fn parse(alloc: Global, text: &[u8]) -> Result<Tree, ModuleFault>
     ensures spelled { IfOk result (λ file. Spells text.now file) }
     ensures parsed { (file : File) → Spells text.now file → Answers file result }
 
-    // Where the tokens spell a file that breaks a limit or a rule on attributes, the first that it breaks is told, or an
-    // attribute left of it that does not fit.
+    // Where the tokens spell a file that breaks a limit or a rule on attributes, the first that it breaks is told.
     ensures limited { (tokens : List Token) (file : File) (spelled : FileAt (lexed_all text.now tokens) file) (b : Break)
-        → length text.now ≤ text_limit → Tokens text.now tokens → file_break (lexed_all text.now tokens) language spelled 64 ≡ Some b
-        → Follows tokens (length text.now) (counted text.now tokens b.code b.place) result }
+        → length text.now ≤ text_limit → Tokens text.now tokens → file_break (lexed_all text.now tokens) language spelled 64 ≡ Some b → Refuses b.place b.code result }
 
     // A refusal has the code and the place of the text's refusal.
     ensures refused { (place : Place) (code : ModuleCode) → result ≡ Err (fault.Refused place code) → IsRefused text.now place code }

@@ -1,5 +1,5 @@
 -- What of a statement within the limits is within them too.
-use Rattle.std.proofs.Common.{Bool, true, false, ◌&&◌, refl, ◌≡◌, ℕ, suc, ◌+◌, ◌<◌, ◌≤◌, max, List, [], ◌∷◌, ◌++◌, length, map, length-append, Option, Some, arith, rules}
+use Rattle.std.proofs.Common.{Bool, true, false, ◌&&◌, ◌||◌, refl, ◌≡◌, ℕ, suc, ◌+◌, ◌<◌, ◌≤◌, max, List, [], ◌∷◌, ◌++◌, length, map, length-append, Option, Some, arith, rules}
 use Rattle.std.proofs.lemmas.List.{length-map}
 use Rattle.slang_names.specs.declared.places.Place.{Place}
 use Rattle.slang_tree.specs.declared.types.TypeTree.{TypeTree}
@@ -34,6 +34,17 @@ and_right false b h = cc
 pub and_both : (a b : Bool) → a ≡ true → b ≡ true → (a && b) ≡ true
 and_both true b g h = h
 and_both false b g h = cc
+
+-- the same of rules that free limits leave out
+pub or_map : (f a b : Bool) → (a ≡ true → b ≡ true) → (f || a) ≡ true → (f || b) ≡ true
+or_map true a b g h = refl
+or_map false a b g h = g h
+
+pub or_left : (f a b : Bool) → (f || (a && b)) ≡ true → (f || a) ≡ true
+or_left f a b h = or_map f (a && b) a (and_left a b) h
+
+pub or_right : (f a b : Bool) → (f || (a && b)) ≡ true → (f || b) ≡ true
+or_right f a b h = or_map f (a && b) b (and_right a b) h
 
 pub max_left : (a b : ℕ) → a ≤ max a b
 max_left a b = omega arith

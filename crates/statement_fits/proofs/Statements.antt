@@ -1,5 +1,5 @@
 -- Statements and blocks: what is spelled within the limits is read.
-use Rattle.std.proofs.Common.{true, false, ◌≡◌, ℕ, zero, suc, ◌+◌, List, [], ◌∷◌, ◌++◌, drop, Option, Some, not, refl, ap, subst, arith}
+use Rattle.std.proofs.Common.{◌||◌, true, false, ◌≡◌, ℕ, zero, suc, ◌+◌, List, [], ◌∷◌, ◌++◌, drop, Option, Some, not, refl, ap, subst, arith}
 use Rattle.slang_names.specs.declared.places.Place.{Place}
 use Rattle.slang_tree.specs.declared.expressions.ExprTree.{ExprTree}
 use Rattle.slang_tree.specs.declared.statements.Attribute.{Attribute}
@@ -160,7 +160,7 @@ module _ (ts : List Lexed) (limits : Limits) where
     reads_node x {from = from} {to = to} tok c i q h seen = reads_next ⊥ ts (stat_at limits true d inner) from seen x to (Some tok) (node limits true d inner tok c) i q h
 
     -- a loop with attributes
-    reads_loop : (x : StatTree) {list : List Attribute} {p : Place} {kind : Kind} {y : Attribute} {from first_ mid to : ℕ} → AttributeAt ts y from first_ → (l : AttributesAt ts [] list from mid) → (o : Stands ts mid kind p) (c : Parser StatTree) → obeys target.Loop list ≡ true → Keeps limits d (λ count. in_attributes count list) →
+    reads_loop : (x : StatTree) {list : List Attribute} {p : Place} {kind : Kind} {y : Attribute} {from first_ mid to : ℕ} → AttributeAt ts y from first_ → (l : AttributesAt ts [] list from mid) → (o : Stands ts mid kind p) (c : Parser StatTree) → (limits.free || obeys target.Loop list) ≡ true → Keeps limits d (λ count. in_attributes count list) →
         ((given : Noted) → loop_at limits true d inner (list, given) (Some (record { kind = kind; place = p; bytes = o.bytes })) ≡ Take c) → ((s1 : ℕ) → Reads ⊥ c ts (mid + 1) s1 x to) → (seen : ℕ) → Reads ⊥ (stat limits true d inner) ts from seen x to
     unfolding loop_rest
     reads_loop x {list = list} {p = p} {kind = kind} {from = from} {mid = mid} {to = to} y l o c obeyed w q h seen =

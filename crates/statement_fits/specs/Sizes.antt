@@ -1,6 +1,6 @@
 -- How many nodes stand on a path of a statement, how long its lists and its names are, and what it is to keep the limits.
 -- Nodes are statements, blocks, lists in braces, expressions and types.
-use Rattle.std.specs.Prelude.{ℕ, ◌+◌, max, ◌≤◌, ◌≡◌, true, List, length, map, Option, Some, None}
+use Rattle.std.specs.Prelude.{ℕ, ◌+◌, max, ◌≤◌, ◌≡◌, true, ◌||◌, List, length, map, Option, Some, None}
 use Rattle.slang_tree.specs.declared.types.Identifier.{Identifier}
 use Rattle.slang_tree.specs.declared.types.TypeTree.{TypeTree}
 use Rattle.slang_tree.specs.declared.expressions.ExprTree.{ExprTree}
@@ -149,10 +149,11 @@ pub record Keeps (limits : Limits) (d : ℕ) (most : Count → ℕ) : Type 0 whe
   pub long : most lists ≤ limits.items
   pub short : most names ≤ limits.names
 
+-- it keeps them, and its attributes obey the rules, where the limits are not free
 pub record StatFits (limits : Limits) (d : ℕ) (x : StatTree) : Type 0 where
   pub sizes : Keeps limits d (λ count. in_stat count x)
-  pub rules : stat_obeys x ≡ true
+  pub rules : (limits.free || stat_obeys x) ≡ true
 
 pub record BlockFits (limits : Limits) (d : ℕ) (x : Block) : Type 0 where
   pub sizes : Keeps limits d (λ count. in_block count x)
-  pub rules : all_true (map stat_obeys x.statements) ≡ true
+  pub rules : (limits.free || all_true (map stat_obeys x.statements)) ≡ true

@@ -10,8 +10,9 @@ ghost use Rattle.statement_grammar.specs.Statements.{BlockAt, StatAt};
 ghost use Rattle.statement_grammar.specs.StatementsDescent.{blocks, statements};
 ghost use Rattle.statement_fits.specs.Sizes.{BlockFits, StatFits};
 
-/// A statement, and the body of a function, that is spelled within the limits, and whose attributes obey the rules, is answered,
-/// where there are as many turns as tokens, as nodes may stand on a path and as items in a list.
+/// A statement, and the body of a function, that is spelled within the limits, and whose attributes obey the rules where the
+/// limits are not free, is answered, where there are as many turns as tokens, as nodes may stand on a path and as items in a
+/// list.
 pub fn statements_are_answered()
     ensures of_statements { (ts : List Lexed) (limits : Limits) (d at seen to : ℕ) (x : StatTree)
         → StatAt ts x at to → StatFits limits d x → length ts ≤ limits.turns → d ≤ limits.turns → limits.items ≤ limits.turns

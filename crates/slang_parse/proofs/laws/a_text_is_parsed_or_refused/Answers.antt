@@ -1,8 +1,8 @@
-use Rattle.slang_parse.proofs.Texts.{spelled_answered, all, not_both, one_file, one_place}
+use Rattle.slang_parse.proofs.Texts.{spelled_done, all, not_both, one_file, one_place}
 use Rattle.slang_parse.proofs.laws.a_text_is_parsed_or_refused.Goals as goal
 
 pub returns-clause-answered : goal.returns-clause-answered
-returns-clause-answered c = spelled_answered (record {
+returns-clause-answered c = spelled_done (record {
   spelled = c.files_are_spelled.ensures.of_files;
   fits = c.what_is_read_fits.ensures.of_files;
   answered = c.files_are_answered.ensures;

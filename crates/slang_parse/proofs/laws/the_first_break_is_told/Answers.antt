@@ -19,18 +19,7 @@ returns-clause-unbroken c = unbroken
     (record { answered = c.files_tell_the_limit.ensures.answered; told = c.files_tell_the_limit.ensures.told })
 
 pub returns-clause-broken : goal.returns-clause-broken
-returns-clause-broken c = broken
-    (record {
-      looked = c.files_go_on.ensures.looked;
-      goes_on = c.files_go_on.ensures.goes_on;
-      within = c.files_go_on.ensures.within;
-      goes_no_further = c.files_go_on.ensures.goes_no_further;
-      not_stopped = c.files_are_read.ensures.not_stopped;
-      past_looked = λ ts limits nodes seen code place. c.limits_go_on.ensures.looked ts limits nodes seen code place;
-      past_goes_on = λ ts limits nodes at code place. c.limits_go_on.ensures.goes_on ts limits nodes at code place;
-      walks = c.files_are_walked.ensures;
-    })
-    (record { answered = c.files_tell_the_limit.ensures.answered; told = c.files_tell_the_limit.ensures.told })
+returns-clause-broken c = broken (record { answered = c.files_tell_the_limit.ensures.answered; told = c.files_tell_the_limit.ensures.told })
 
 pub returns-clause-first : goal.returns-clause-first
 returns-clause-first c = λ ts file s b e. c.files_tell_the_limit.ensures.goes_first ts language 64 file s b (omega arith) e

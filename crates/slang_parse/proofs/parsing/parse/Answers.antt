@@ -1,15 +1,11 @@
-use Rattle.std.proofs.Common.{refl, sym, subst, ◌∙◌, ap, Err, Result, length}
+use Rattle.std.proofs.Common.{refl, sym, subst, ◌∙◌, ap, Err, Result}
 use Rattle.slang_names.specs.declared.faults.ModuleFault.{ModuleFault}
 use Rattle.slang_tree.specs.declared.file.File.{File}
 use Rattle.slang_reading.specs.Lexed.{lexed_all}
 use Rattle.type_reading.specs.Limited.{language}
-use Rattle.furthest_reading.specs.declared.verdicts.Verdict.{Verdict}
-use Rattle.furthest_reading.specs.Verdicts.{counted}
-use Rattle.file_reading.specs.Wholes.{Answers, Follows}
+use Rattle.file_reading.specs.Wholes.{Answers, Refuses}
 use Rattle.slang_parse.specs.Parsing.{Spells}
-use Rattle.slang_parse.proofs.Texts.{ok_spells, each_file, refused_is}
-use Rattle.furthest_reading.proofs.Judging.{counted_no_file}
-use Rattle.slang_parse.proofs.Verdicts.{no_answer}
+use Rattle.slang_parse.proofs.Texts.{ok_spells, each_file, refused_is, told}
 use Rattle.slang_parse.proofs.parsing.parse.Goals as goal
 
 pub tree_of-requires : goal.tree_of-requires
@@ -48,13 +44,10 @@ returns-in-Err-clause-refused c = λ place code e.
 
 pub returns-in-Err-clause-limited : goal.returns-in-Err-clause-limited
 returns-in-Err-clause-limited c = λ tokens file spelled b short cut e.
-    let v = c.the_first_break_is_told.ensures.broken c.args.text.now tokens file spelled b short cut e in
-    subst (λ (r : Result File ModuleFault). Follows tokens (length c.args.text.now) (counted c.args.text.now tokens b.code b.place) r) c.in-Err.is
-    (subst (λ (v : Verdict). Follows tokens (length c.args.text.now) v c.read_file.result) v (c.read_file.ensures.read tokens short cut))
+    let d = c.the_first_break_is_told.ensures.broken c.args.text.now tokens file spelled b short cut e in
+    subst (λ (r : Result File ModuleFault). Refuses b.place b.code r) c.in-Err.is (told c.args.text.now tokens c.read_file.result b.code b.place d.0 d.1 (c.read_file.ensures.read tokens short cut))
 
 pub returns-in-Ok-clause-limited : goal.returns-in-Ok-clause-limited
 returns-in-Ok-clause-limited c = λ tokens file spelled b short cut e.
-    let v = c.the_first_break_is_told.ensures.broken c.args.text.now tokens file spelled b short cut e in
-    let f = subst (λ (r : Result File ModuleFault). Follows tokens (length c.args.text.now) (counted c.args.text.now tokens b.code b.place) r) c.in-Ok.is
-    (subst (λ (v : Verdict). Follows tokens (length c.args.text.now) v c.read_file.result) v (c.read_file.ensures.read tokens short cut)) in
-    absurd (no_answer tokens (length c.args.text.now) (counted c.args.text.now tokens b.code b.place) c.in-Ok.file (counted_no_file c.args.text.now tokens b.code b.place) f)
+    let d = c.the_first_break_is_told.ensures.broken c.args.text.now tokens file spelled b short cut e in
+    absurd (subst (λ (r : Result File ModuleFault). Refuses b.place b.code r) c.in-Ok.is (told c.args.text.now tokens c.read_file.result b.code b.place d.0 d.1 (c.read_file.ensures.read tokens short cut)))

@@ -1,4 +1,0 @@
-pub mod Cursors
-pub mod Folds
-pub mod Judging
-pub mod Walking
