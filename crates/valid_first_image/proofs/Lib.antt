@@ -16,3 +16,4 @@ pub mod Typed
 pub mod Validity
 pub mod Small
 pub mod Bytes
+pub mod EntryTold

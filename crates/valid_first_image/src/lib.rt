@@ -1,6 +1,6 @@
-//! The image of a shader of the first form is valid.
+//! The image of a shader of the first form is valid, and tells its entry.
 #![tactic(auto)]
 
 mod laws;
 
-pub use laws::the_image_is_valid;
+pub use laws::{the_entry_is_told, the_image_is_valid};
