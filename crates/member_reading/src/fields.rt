@@ -64,9 +64,10 @@ pub(crate) fn field_rest(
     ensures { Runs (spec.field_rest (limits_of limits) 0 x) tokens.old result tokens.new }
 {
     let (kind, name) = x;
-    let (sizes, _last) = lengths(alloc, limits, tokens, name.place)?;
+    let (sizes, last) = lengths(alloc, limits, tokens, name.place)?;
     let mut list = Items::new(alloc);
     list.push(DeclaredName {
+        place: span(name.place, last),
         name,
         lengths: sizes,
     })?;
