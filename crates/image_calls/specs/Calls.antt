@@ -3,7 +3,8 @@ use Rattle.std.specs.Prelude.{◌≡◌, ◌⊎◌, ℕ, ◌<◌, true, List, ta
 use Rattle.spirv_words.specs.declared.images.Instruction.{Instruction}
 use Rattle.spirv_words.specs.Runs.{entry_of}
 use Rattle.image_places.specs.Places.{word_of}
-use Rattle.image_calls.specs.Edges.{open_after, edge_of, calls, Leads}
+use Rattle.call_graph.specs.Edges.{Leads}
+use Rattle.image_calls.specs.Edges.{open_after, edge_of, calls}
 use Rattle.image_calls.specs.Arguments.{is_bad}
 
 -- what is called leads back to the function that calls

@@ -1,4 +1,3 @@
 pub mod Edges
-pub mod Unseen
 pub mod Arguments
 pub mod Calls

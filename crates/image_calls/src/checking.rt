@@ -4,21 +4,20 @@ ghost use Rattle.std.specs.Prelude.{◌≡◌, ◌↔◌, ◌<◌, ◌≤◌, �
 ghost use Rattle.spirv_words.specs.Words.{image_words};
 ghost use Rattle.spirv_words.specs.Runs.{entry_of};
 ghost use Rattle.image_places.specs.Places.{IsFirst};
-ghost use Rattle.image_calls.specs.Edges.{calls, callees, calls_it, listed, rank};
+ghost use Rattle.call_graph.specs.Edges.{callees, calls_it, listed, rank};
+ghost use Rattle.image_calls.specs.Edges.{calls};
 ghost use Rattle.image_calls.specs.Calls.{LeadsBack, IsWrongCall, HasWrongCall, IsFirstBad, BadCall, inside_at};
 
 use crate::arguments::is_bad;
-use crate::edges::{callees, calls, edge_of, open_after};
-use crate::ranks::{descend, rank_of, ranks};
-use crate::reach::leads;
+use crate::edges::{calls, edge_of, open_after};
+use call_graph::{callees, descending};
 use image_lookup::{Definitions, entry_of, word_of};
 use image_places::places_grow;
 use spirv_words::{Image, Instruction};
 use std::alloc::{AllocError, Global};
 use std::collections::HashMap;
 
-/// Whether what is called leads back to the function that calls. It does not where numbers descend over all calls, and over
-/// this one truly; only else a search is made.
+/// Whether what is called leads back to the function that calls, if an instruction is a call.
 fn leads_back(
     alloc: Global,
     map: &HashMap<u32, Vec<u32>>,
@@ -32,24 +31,9 @@ fn leads_back(
 {
     match edge {
         Some((caller, callee)) => {
-            if rank_of(ranks, callee) < rank_of(ranks, caller) {
-                return Ok(false);
-            }
-            leads(alloc, map, edges, callee, caller)
+            call_graph::leads_back(alloc, map, edges, ranks, caller, callee)
         }
         None => Ok(false),
-    }
-}
-
-/// Numbers of functions that descend over all calls.
-fn descending(alloc: Global, edges: &[(u32, u32)]) -> Result<HashMap<u32, usize>, AllocError>
-    ensures { IfOk result (λ ranks. (from to : ℕ) → calls_it edges.now from to ≡ true → rank ranks to ≤ rank ranks from) }
-{
-    let found = ranks(alloc, edges)?;
-    if descend(&found, edges) {
-        Ok(found)
-    } else {
-        Ok(HashMap::new(alloc))
     }
 }
 

@@ -1,11 +1,10 @@
 // Which function calls which.
 
-ghost use Rattle.std.specs.Prelude.{◌≡◌, ◌++◌, ◌∷◌, [], ℕ, None, IfOk, OnOk, cond, nat_eq, slice_index};
-ghost use Rattle.image_calls.specs.Edges.{open_after, edge_of, calls, callees, listed};
+ghost use Rattle.std.specs.Prelude.{◌≡◌, None, IfOk, slice_index};
+ghost use Rattle.image_calls.specs.Edges.{open_after, edge_of, calls};
 
 use spirv_words::{Instruction, Op};
 use std::alloc::{AllocError, Global};
-use std::collections::HashMap;
 
 pub fn operand_of(instruction: &Instruction, number: usize) -> u32
     ensures { result ≡ slice_index instruction.now.operands number }
@@ -56,33 +55,4 @@ pub fn calls(alloc: Global, code: &[Instruction]) -> Result<Vec<(u32, u32)>, All
         inside = open_after(instruction, inside);
     }
     Ok(edges)
-}
-
-/// The functions that each function calls.
-pub fn callees(alloc: Global, edges: &[(u32, u32)]) -> Result<HashMap<u32, Vec<u32>>, AllocError>
-    ensures { IfOk result (λ map. (id : ℕ) → listed map id ≡ callees edges.now id) }
-{
-    let mut map = HashMap::new(alloc);
-    for (caller, callee) in edges {
-        add_callee(alloc, &mut map, *caller, *callee)?;
-    }
-    Ok(map)
-}
-
-fn add_callee(
-    alloc: Global,
-    map: &mut HashMap<u32, Vec<u32>>,
-    caller: u32,
-    callee: u32,
-) -> Result<(), AllocError>
-    ensures { OnOk result ((id : ℕ) → listed map.new id ≡ cond (nat_eq caller id) (listed map.old id ++ callee ∷ []) (listed map.old id)) }
-{
-    match map.get_mut(&caller) {
-        Some(list) => list.push(callee)?,
-        None => {
-            let list = vec![in alloc; callee]?;
-            map.insert(caller, list)?;
-        }
-    }
-    Ok(())
 }

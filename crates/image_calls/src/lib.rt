@@ -4,7 +4,8 @@
 mod arguments;
 mod checking;
 mod edges;
-mod ranks;
-mod reach;
+mod laws;
 
 pub use checking::first_call_fault;
+pub use edges::calls;
+pub use laws::calls_lead_nowhere_back;

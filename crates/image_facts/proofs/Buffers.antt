@@ -23,8 +23,8 @@ use Rattle.image_declarations.specs.Holdings.{is_data, is_unbounded, extent, is_
 use Rattle.image_operands.specs.Memory.{is_runtime_array_sort, is_wrapping}
 use Rattle.image_operands.specs.Marks.{if_array, if_struct, is_strided, has_offsets, is_buffer, stride_fits, mark_fits, member_mark_fits}
 use Rattle.image_types.specs.Parts.{has_stride, have_offsets, may_be_member, runtime_array_fits, struct_fits}
-use Rattle.image_calls.proofs.Walks.{first-true, second-true}
-use Rattle.image_calls.proofs.Visits.{or-cases}
+use Rattle.call_graph.proofs.Walks.{first-true, second-true}
+use Rattle.call_graph.proofs.Visits.{or-cases}
 use Rattle.spirv_check.specs.Valid.{Valid}
 use Rattle.image_facts.specs.Operands.{shape, type_id}
 use Rattle.image_facts.specs.Alike.{is_endless, IsStride, IsSpaced, AreSpaced}

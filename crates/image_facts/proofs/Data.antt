@@ -21,8 +21,8 @@ use Rattle.image_operands.specs.Operators.{is_bool, is_int}
 use Rattle.image_operands.specs.Memory.{member_at}
 use Rattle.image_types.specs.Functions.{is_void_sort, is_void}
 use Rattle.image_types.specs.Parts.{has_stride, may_be_member, runtime_array_fits, struct_fits}
-use Rattle.image_calls.proofs.Walks.{first-true, second-true}
-use Rattle.image_calls.proofs.Visits.{or-cases}
+use Rattle.call_graph.proofs.Walks.{first-true, second-true}
+use Rattle.call_graph.proofs.Visits.{or-cases}
 use Rattle.spirv_check.specs.Valid.{Valid}
 use Rattle.image_facts.specs.Operands.{globals_of, shape}
 use Rattle.image_facts.specs.Shaped.{IsRepeated, IsUnbounded, AreFields, IsFields, HasData}

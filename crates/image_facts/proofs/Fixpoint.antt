@@ -14,7 +14,7 @@ use Rattle.image_operands.specs.Operators.{is_int}
 use Rattle.image_types.specs.Parts.{if_number, is_length, runtime_array_fits, array_fits}
 use Rattle.image_types.specs.Rules.{rule_of}
 use Rattle.image_types.specs.Checking.{context_at, meets}
-use Rattle.image_calls.proofs.Walks.{second-true}
+use Rattle.call_graph.proofs.Walks.{second-true}
 use Rattle.image_places.specs.declared.roles.Role.TheVariants.{Use, Literal}
 use Rattle.image_places.specs.Roles.{text_end, role_of}
 use Rattle.image_places.specs.Places.{function_of, block_of}

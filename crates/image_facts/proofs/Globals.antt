@@ -23,8 +23,8 @@ use Rattle.image_operands.specs.Operators.{is_bool, is_int, is_uint}
 use Rattle.image_operands.specs.Memory.{is_pointer_sort, is_struct_sort, is_struct, is_runtime_array, has_mark, is_wrapping, global_fits, number_of, constant_number}
 use Rattle.image_operands.specs.Marks.{is_variable_sort, is_variable, is_buffer, is_input, if_triple, is_triple, built_in_fits, mark_fits}
 use Rattle.image_types.specs.Functions.{is_void_sort, is_void}
-use Rattle.image_calls.proofs.Walks.{first-true, second-true}
-use Rattle.image_calls.proofs.Visits.{or-cases}
+use Rattle.call_graph.proofs.Walks.{first-true, second-true}
+use Rattle.call_graph.proofs.Visits.{or-cases}
 use Rattle.image_scopes.specs.Scopes.{IsGlobal}
 use Rattle.spirv_check.specs.Valid.{Valid}
 use Rattle.image_facts.specs.Operands.{globals_of, shape, type_id, built_in_shape, is_built_in, Suits}

@@ -8,7 +8,7 @@ use Rattle.spirv_words.specs.declared.images.Instruction.{Instruction}
 use Rattle.spirv_words.specs.Machine.{decorated, decoration, member_decorated, offset, or_zero}
 use Rattle.image_declarations.specs.declared.decorations.Mark.{Mark}
 use Rattle.image_declarations.specs.Decorations.{same_pair, decoration_of, member_decoration_of, mark_here, mark, member_mark, literal_of}
-use Rattle.image_calls.proofs.Walks.{first-true, second-true}
+use Rattle.call_graph.proofs.Walks.{first-true, second-true}
 
 -- the literal of a mark, if there is one
 abbrev pub literal_in : Option Mark → Option ℕ

@@ -10,7 +10,7 @@ use Rattle.spirv_words.specs.declared.images.Image.{Image}
 use Rattle.spirv_words.specs.Machine.{is_function}
 use Rattle.image_places.specs.Places.{op_at, function_of, block_of}
 use Rattle.image_rules.specs.Order.{section, section_at, reached, may_follow, may_stand, is_misplaced}
-use Rattle.image_calls.proofs.Walks.{second-true}
+use Rattle.call_graph.proofs.Walks.{second-true}
 use Rattle.spirv_check.specs.Valid.{Valid}
 use Rattle.image_facts.proofs.Rules.{not-true, not-false, right-order}
 

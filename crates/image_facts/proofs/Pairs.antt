@@ -8,7 +8,7 @@ use Rattle.spirv_words.specs.Machine.{or_zero, decoration}
 use Rattle.image_declarations.specs.declared.decorations.Mark.{Mark}
 use Rattle.image_declarations.specs.Decorations.{mark, same_pair, literal_of}
 use Rattle.image_operands.specs.Marks.{is_buffer, pair_at, completed, is_pair, is_taken, taken_in, clashes}
-use Rattle.image_calls.proofs.Visits.{or-left, or-right}
+use Rattle.call_graph.proofs.Visits.{or-left, or-right}
 use Rattle.spirv_check.specs.Valid.{Valid}
 use Rattle.image_facts.proofs.Rules.{no-clash}
 use Rattle.image_facts.proofs.Marks.{decoration-is, decorates, mark-found, mark-there}

@@ -22,8 +22,8 @@ use Rattle.image_declarations.specs.Reach.{pointed_by, is_buffer_class, buffer_o
 use Rattle.image_declarations.specs.Reach as reaches
 use Rattle.image_declarations.specs.Holdings.{is_reached, is_wrapper}
 use Rattle.image_operands.specs.Marks.{is_variable_sort, is_variable}
-use Rattle.image_calls.proofs.Walks.{second-true}
-use Rattle.image_calls.proofs.Visits.{or-cases, or-left, or-right}
+use Rattle.call_graph.proofs.Walks.{second-true}
+use Rattle.call_graph.proofs.Visits.{or-cases, or-left, or-right}
 use Rattle.spirv_check.specs.Valid.{Valid}
 use Rattle.image_facts.proofs.Rules.{right-layout, defined-once, used-defined, some-same}
 use Rattle.image_facts.proofs.Made.{made, same-instruction}

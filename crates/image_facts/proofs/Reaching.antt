@@ -2,7 +2,7 @@
 use Rattle.std.proofs.Common.{◌≡◌, ℕ, zero, suc, ◌+◌, ◌-◌, ◌*◌, ◌<◌, ◌≤◌, max, ◌⊎◌, inl, inr, Bool, true, false, cond, ◌&&◌, ◌||◌, List, [], ◌∷◌, length, drop, slice_index, Option, Some, refl, sym, ap, subst, ◌∙◌, arith}
 use Rattle.std.specs.List.{list_any, list_all}
 use Rattle.std.proofs.lemmas.Bool.{ne_eqb}
-use Rattle.image_calls.proofs.Visits.{or-right}
+use Rattle.call_graph.proofs.Visits.{or-right}
 use Rattle.spirv_words.specs.declared.opcodes.Op.TheVariants.{TypeRuntimeArray}
 use Rattle.spirv_words.specs.declared.images.Instruction.{Instruction}
 use Rattle.spirv_words.specs.declared.images.Image.{Image}

@@ -24,7 +24,7 @@ use Rattle.image_types.specs.declared.functions.Context.{Context}
 use Rattle.image_types.specs.Rules.{rule_of}
 use Rattle.image_types.specs.Checking as checking
 use Rattle.image_types.specs.Checking.{context_at, meets, is_wrong, has_wrong_types}
-use Rattle.image_calls.proofs.Walks.{second-true}
+use Rattle.call_graph.proofs.Walks.{second-true}
 use Rattle.spirv_check.specs.Valid.{Valid}
 
 -- ---- tests

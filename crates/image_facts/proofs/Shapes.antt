@@ -18,8 +18,8 @@ use Rattle.image_declarations.specs.Decorations.{stride_of}
 use Rattle.image_declarations.specs.Types.{number_by, length_of}
 use Rattle.image_operands.specs.Operators.{is_bool_sort, is_bool, is_int_sort, is_int}
 use Rattle.image_types.specs.Parts.{is_length, vector_fits, runtime_array_fits, array_fits}
-use Rattle.image_calls.proofs.Walks.{first-true}
-use Rattle.image_calls.proofs.Visits.{or-cases}
+use Rattle.call_graph.proofs.Walks.{first-true}
+use Rattle.call_graph.proofs.Visits.{or-cases}
 use Rattle.spirv_check.specs.Valid.{Valid}
 use Rattle.image_facts.specs.Operands.{globals_of, shape}
 use Rattle.image_facts.specs.Alike.{reach, IsSpaced}

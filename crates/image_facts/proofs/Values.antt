@@ -25,8 +25,8 @@ use Rattle.image_operands.specs.Marks.{is_variable_sort, is_variable}
 use Rattle.image_types.specs.declared.functions.Context.{Context}
 use Rattle.image_types.specs.Functions.{variable_fits}
 use Rattle.image_types.specs.Checking.{context_at}
-use Rattle.image_calls.proofs.Walks.{first-true, second-true}
-use Rattle.image_calls.proofs.Visits.{or-cases}
+use Rattle.call_graph.proofs.Walks.{first-true, second-true}
+use Rattle.call_graph.proofs.Visits.{or-cases}
 use Rattle.spirv_check.specs.Valid.{Valid}
 use Rattle.image_facts.specs.Operands.{globals_of, shape, type_id, is_local, root_shape}
 use Rattle.image_facts.proofs.Rules.{right-rule, defined-once, some-same}

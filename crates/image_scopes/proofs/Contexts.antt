@@ -20,7 +20,8 @@ use Rattle.image_types.specs.Rules.{rule_of}
 use Rattle.image_types.specs.Functions.{after_op, after, is_void, is_function_sort, is_function, call_fits, return_fits, return_value_fits}
 use Rattle.image_types.specs.Checking.{meets, context_at}
 use Rattle.image_types.proofs.Walk.{context-more}
-use Rattle.image_calls.specs.Edges.{open_by, open_after, edge_of, calls, Leads}
+use Rattle.call_graph.specs.Edges.{Leads}
+use Rattle.image_calls.specs.Edges.{open_by, open_after, edge_of, calls}
 use Rattle.image_calls.specs.Arguments.{parameter_types, are_arguments, fit_by, arguments_fit, is_entry, is_bad}
 use Rattle.image_calls.specs.Calls.{LeadsBack, inside_at}
 use Rattle.image_calls.proofs.Callers.{inside-more}

@@ -9,7 +9,8 @@ use Rattle.image_places.specs.Places.{function_of}
 use Rattle.image_rules.specs.Blocks.{is_label}
 use Rattle.image_types.specs.Functions.{is_void, is_function}
 use Rattle.image_types.specs.Checking.{context_at}
-use Rattle.image_calls.specs.Edges.{calls, Leads}
+use Rattle.call_graph.specs.Edges.{Leads}
+use Rattle.image_calls.specs.Edges.{calls}
 use Rattle.image_calls.specs.Arguments.{parameter_types, are_arguments}
 use Rattle.image_calls.specs.Calls.{inside_at}
 use Rattle.image_scopes.specs.Scopes.{IsRun, IsSeen, IsGlobal}

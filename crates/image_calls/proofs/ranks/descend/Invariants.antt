@@ -1,6 +1,0 @@
-use Rattle.std.proofs.Common.{◌≡◌, ◌≤◌, ℕ, true, take}
-use Rattle.image_calls.specs.Edges.{calls_it, rank}
-use Rattle.image_calls.proofs.ranks.descend.Given as goal
-
-abbrev pub invariant-loop-caller : goal.invariant-loop-caller
-invariant-loop-caller l = (from to : ℕ) → calls_it (take l.caller-index l.edges) from to ≡ true → rank l.ranks to ≤ rank l.ranks from
