@@ -23,4 +23,4 @@ runs_as {f = f} {g = g} {o = o} {n = n} {result = result} e h = subst (λ (x : O
 
 -- the answer over files that hold the same
 pub answer_still : (c : Request) (f f1 : FilesNow) (a : Answer) → f1.contents ≡ f.contents → IsTheAnswer c f a → IsTheAnswer c f1 a
-answer_still c f f1 a same h = record { is = λ m told. h.is m (sym same ∙ told); real = h.real; told = λ m told. h.told m (sym same ∙ told) }
+answer_still c f f1 a same h = record { is = λ m told. h.is m (sym same ∙ told); may = h.may; told = λ m told. h.told m (sym same ∙ told) }

@@ -1,18 +1,17 @@
 -- From what was read and made to the command's answer.
-use Rattle.std.proofs.Common.{◌≡◌, ℕ, ◌+◌, ◌<◌, List, length, replicate, Some, None, refl, sym, subst, arith}
+use Rattle.std.proofs.Common.{◌≡◌, ℕ, ◌+◌, ◌<◌, List, length, replicate, Some, None, refl, arith}
 use Rattle.slang_names.specs.declared.names.Ref.{Ref}
 use Rattle.slang_store.specs.declared.files.Found.{Found}
 use Rattle.slang_store.specs.declared.files.Found.TheVariants.{Bytes, Absent, TooLong}
 use Rattle.slang_store.specs.Contents.{Contents}
 use Rattle.run_command.specs.Requests.{RunRequest}
 use Rattle.run_command.specs.Answers.{Came, Comes}
-use Rattle.run_command.specs.Answers as came
 use Rattle.slang_cli.proofs.Told.{if_puts}
 use Rattle.slang_cli.specs.Commands.{Compile, Run, text_name}
-use Rattle.slang_cli.specs.Answers.{Answer, Compiles, absent, not_parsed, not_yet, no_entry, puts, outcome_of, answer_of, ImageIsTold, IfPuts}
+use Rattle.slang_cli.specs.Answers.{Answer, Compiles, answer_of, ImageIsTold, IfPuts}
 use Rattle.slang_parse.specs.Parsing.{text_limit}
 use Rattle.slang_store.specs.Finds.{IsFound}
-use Rattle.slang_cli.specs.Outside.{FilesNow, IsReal, IsTheAnswer}
+use Rattle.slang_cli.specs.Outside.{FilesNow, IsTheAnswer}
 use Rattle.std.proofs.lemmas.List.{length-replicate}
 
 -- some files of which this is found
@@ -24,33 +23,18 @@ some_contents limit name TooLong =
     let lt : limit < length long = omega (arith, length-replicate {A = ℕ} (limit + 1) 0) in
     ((λ n. Some long), (long, refl, lt))
 
-compiles_real : (m : Contents) (entry : Ref) (image home : List ℕ) {a : Answer} → Compiles m entry image home a → IsReal (outcome_of a)
-compiles_real m entry image home (absent h) = tt
-compiles_real m entry image home (not_parsed h r) = tt
-compiles_real m entry image home (not_yet h s f) = tt
-compiles_real m entry image home (no_entry h f n) = tt
-compiles_real m entry image home (puts h f e) = tt
-
 pub the_answer : (entry : Ref) (image home : List ℕ) (f : FilesNow) (a : Answer) (found : Found) → ((m : Contents) → f.contents ≡ Some m → IsFound text_limit (m (text_name home)) found) → ((m : Contents) → IsFound text_limit (m (text_name home)) found → Compiles m entry image home a) → ((m : Contents) → IsFound text_limit (m (text_name home)) found → IfPuts a (ImageIsTold m home)) → IsTheAnswer (Compile entry image home) f a
 the_answer entry image home f a found held compiled told =
     let some = some_contents text_limit (text_name home) found in
     record {
       is = λ m e. compiled m (held m e);
-      real = compiles_real some.0 entry image home (compiled some.0 some.1);
+      may = (some.0, compiled some.0 some.1);
       told = λ m e. told m (held m e);
     }
-
-run_real : (r : RunRequest) (c : Came) → IsReal (outcome_of (answer_of r c))
-run_real r (came.Absent name) = tt
-run_real r (came.ImageRefused place code) = tt
-run_real r (came.InputRefused cause) = tt
-run_real r (came.Undefined invocation step) = tt
-run_real r (came.Budget invocation) = tt
-run_real r (came.Ran text invocations steps) = tt
 
 pub the_run : (r : RunRequest) (f : FilesNow) (a : Answer) (c : Came) → ((m : Contents) → f.contents ≡ Some m → Comes m r c) → a ≡ answer_of r c → IsTheAnswer (Run r) f a
 the_run r f a c comes e = record {
   is = λ m told. (c, comes m told, e);
-  real = subst (λ (x : Answer). IsReal (outcome_of x)) (sym e) (run_real r c);
+  may = (c, e);
   told = λ m told. if_puts a tt;
 }

@@ -6,9 +6,10 @@ use Rattle.slang_outcomes.specs.declared.outcome.Outcome.{Outcome}
 use Rattle.slang_outcomes.specs.declared.outcome.Outcome.TheVariants.{Done, ModuleRefused, LinkRefused, Words, ReadFault, WriteFault, Memory, Undefined, Budget, Absent, FormRefused, ImageRefused, InputRefused}
 use Rattle.slang_cli.specs.Commands.{Request, asked, asked_of}
 use Rattle.slang_outcomes.specs.Lines.{refusal_line}
-use Rattle.slang_cli.specs.Answers.{Answer, Refuses, Puts, IsAnswer, outcome_of, printed, contents_after}
-use Rattle.slang_cli.specs.Outside.{FilesNow, SinkNow, TookAll, IsHalt, IsReal, Runs, halted, answered, cut}
-use Rattle.slang_cli.specs.Calls.{WhereSettled, WhereRefused, Answered, PutInPart, MayHold, IsLine}
+use Rattle.slang_cli.specs.Answers.{Answer, Refuses, Puts, IsAnswer, MayAnswer, outcome_of, printed, contents_after}
+use Rattle.slang_cli.specs.Outside.{FilesNow, SinkNow, TookAll, IsHalt, IsTheAnswer, Runs, halted, answered, cut}
+use Rattle.slang_cli.specs.Calls.{WhereSettled, WhereRefused, Answered, PutInPart, MayHold, HoldsWhole, IsLineOf, IsLine, MayPrint, IsDoneLine}
+use Rattle.slang_cli.proofs.Possible.{IsReal, may_real, may_line}
 
 -- ---- on statuses
 
@@ -87,33 +88,37 @@ halt_unsettled c f g (FormRefused x y z) P h = absurd h
 halt_unsettled c f g (ImageRefused x y) P h = absurd h
 halt_unsettled c f g (InputRefused x) P h = absurd h
 
-halt_line : (c : Option Request) (f g : FilesNow) (m : Contents) (s : Outcome) → IsHalt c f g s → IsLine c m (refusal_line (asked_of c) s)
-halt_line None f g m Done h = absurd h
-halt_line None f g m (ModuleRefused x y z) h = absurd h
-halt_line None f g m (LinkRefused x) h = absurd h
-halt_line None f g m Words h = refl
-halt_line None f g m ReadFault h = absurd h
-halt_line None f g m WriteFault h = absurd h
-halt_line None f g m Memory h = absurd h
-halt_line None f g m (Undefined x y) h = absurd h
-halt_line None f g m (Budget x) h = absurd h
-halt_line None f g m (Absent x) h = absurd h
-halt_line None f g m (FormRefused x y z) h = absurd h
-halt_line None f g m (ImageRefused x y) h = absurd h
-halt_line None f g m (InputRefused x) h = absurd h
-halt_line (Some c) f g m Done h = absurd h
-halt_line (Some c) f g m (ModuleRefused x y z) h = absurd h
-halt_line (Some c) f g m (LinkRefused x) h = absurd h
-halt_line (Some c) f g m Words h = absurd h
-halt_line (Some c) f g m ReadFault h = inr (inl refl)
-halt_line (Some c) f g m WriteFault h = absurd h
-halt_line (Some c) f g m Memory h = inr (inr refl)
-halt_line (Some c) f g m (Undefined x y) h = absurd h
-halt_line (Some c) f g m (Budget x) h = absurd h
-halt_line (Some c) f g m (Absent x) h = absurd h
-halt_line (Some c) f g m (FormRefused x y z) h = absurd h
-halt_line (Some c) f g m (ImageRefused x y) h = absurd h
-halt_line (Some c) f g m (InputRefused x) h = absurd h
+halt_line : (Kind : Request → Answer → Type 0) (c : Option Request) (f g : FilesNow) (s : Outcome) → IsHalt c f g s → IsLineOf Kind c (refusal_line (asked_of c) s)
+halt_line Kind None f g Done h = absurd h
+halt_line Kind None f g (ModuleRefused x y z) h = absurd h
+halt_line Kind None f g (LinkRefused x) h = absurd h
+halt_line Kind None f g Words h = refl
+halt_line Kind None f g ReadFault h = absurd h
+halt_line Kind None f g WriteFault h = absurd h
+halt_line Kind None f g Memory h = absurd h
+halt_line Kind None f g (Undefined x y) h = absurd h
+halt_line Kind None f g (Budget x) h = absurd h
+halt_line Kind None f g (Absent x) h = absurd h
+halt_line Kind None f g (FormRefused x y z) h = absurd h
+halt_line Kind None f g (ImageRefused x y) h = absurd h
+halt_line Kind None f g (InputRefused x) h = absurd h
+halt_line Kind (Some c) f g Done h = absurd h
+halt_line Kind (Some c) f g (ModuleRefused x y z) h = absurd h
+halt_line Kind (Some c) f g (LinkRefused x) h = absurd h
+halt_line Kind (Some c) f g Words h = absurd h
+halt_line Kind (Some c) f g ReadFault h = inr (inl refl)
+halt_line Kind (Some c) f g WriteFault h = absurd h
+halt_line Kind (Some c) f g Memory h = inr (inr refl)
+halt_line Kind (Some c) f g (Undefined x y) h = absurd h
+halt_line Kind (Some c) f g (Budget x) h = absurd h
+halt_line Kind (Some c) f g (Absent x) h = absurd h
+halt_line Kind (Some c) f g (FormRefused x y z) h = absurd h
+halt_line Kind (Some c) f g (ImageRefused x y) h = absurd h
+halt_line Kind (Some c) f g (InputRefused x) h = absurd h
+
+pub halt_done : (c : Option Request) (f g : FilesNow) → IsHalt c f g Done → ⊥
+halt_done None f g h = h
+halt_done (Some c) f g h = h
 
 rose_before : (a b c : ℕ) → a ≤ b → Rose b c → Rose a c
 rose_before a b c le r = ⊎_elim (λ lt. inl (omega (arith, lt))) (λ e. inr e) r
@@ -160,9 +165,9 @@ unreal s t e h never = absurd (never (subst (λ (x : Outcome). IsReal x) e h))
 pub runs_before : (c : Option Request) (f f1 g : FilesNow) (o n : SinkNow) {result : Outcome} → f1.contents ≡ f.contents → f1.puts ≡ f.puts → f.reads ≤ f1.reads → Runs c f1 g o n result → Runs c f g o n result
 runs_before c f f1 g o n same puts le (halted status h stays p) = halted status (halt_before c f f1 g status le h) (stays ∙ same) p
 runs_before c f f1 g o n same puts le (answered command a is_c is after p) =
-    answered command a is_c (record { is = λ m told. is.is m (same ∙ told); real = is.real; told = λ m told. is.told m (same ∙ told) }) (λ m told. after m (same ∙ told)) p
+    answered command a is_c (record { is = λ m told. is.is m (same ∙ told); may = is.may; told = λ m told. is.told m (same ∙ told) }) (λ m told. after m (same ∙ told)) p
 runs_before c f f1 g o n same puts le (cut command name bytes line is_c is partly rose taken) =
-    cut command name bytes line is_c (record { is = λ m told. is.is m (same ∙ told); real = is.real; told = λ m told. is.told m (same ∙ told) }) (λ m told. partly m (same ∙ told)) (subst (λ (k : ℕ). Rose k g.puts) puts rose) taken
+    cut command name bytes line is_c (record { is = λ m told. is.is m (same ∙ told); may = is.may; told = λ m told. is.told m (same ∙ told) }) (λ m told. partly m (same ∙ told)) (subst (λ (k : ℕ). Rose k g.puts) puts rose) taken
 
 -- ---- the clauses
 
@@ -170,7 +175,7 @@ pub only_words : (c : Option Request) (f g : FilesNow) (o n : SinkNow) {result :
 only_words c f g o n (halted status h stays p) e =
     ⊎_elim (λ all. halt_words c f g (subst (λ (s : Outcome). IsHalt c f g s) (sym all.1 ∙ e) h)) (λ part. no_fault part.1 e (λ x. cc)) p
 only_words c f g o n (answered command a is_c is after p) e =
-    ⊎_elim (λ all. unreal (outcome_of a) Words (sym all.1 ∙ e) is.real (λ x. x)) (λ part. no_fault part.1 e (λ x. cc)) p
+    ⊎_elim (λ all. unreal (outcome_of a) Words (sym all.1 ∙ e) (may_real command a is.may) (λ x. x)) (λ part. no_fault part.1 e (λ x. cc)) p
 only_words c f g o n (cut command name bytes line is_c is partly rose taken) e = absurd cc
 
 pub always_words : (c : Option Request) (f g : FilesNow) (o n : SinkNow) {result : Outcome} → Runs c f g o n result → c ≡ None → (result ≡ Words) ⊎ (result ≡ WriteFault)
@@ -183,14 +188,14 @@ pub read_rose : (c : Option Request) (f g : FilesNow) (o n : SinkNow) {result : 
 read_rose c f g o n (halted status h stays p) e =
     ⊎_elim (λ all. halt_read c f g (subst (λ (s : Outcome). IsHalt c f g s) (sym all.1 ∙ e) h)) (λ part. no_fault part.1 e (λ x. cc)) p
 read_rose c f g o n (answered command a is_c is after p) e =
-    ⊎_elim (λ all. unreal (outcome_of a) ReadFault (sym all.1 ∙ e) is.real (λ x. x)) (λ part. no_fault part.1 e (λ x. cc)) p
+    ⊎_elim (λ all. unreal (outcome_of a) ReadFault (sym all.1 ∙ e) (may_real command a is.may) (λ x. x)) (λ part. no_fault part.1 e (λ x. cc)) p
 read_rose c f g o n (cut command name bytes line is_c is partly rose taken) e = absurd cc
 
 pub write_rose : (c : Option Request) (f g : FilesNow) (o n : SinkNow) {result : Outcome} → Runs c f g o n result → result ≡ WriteFault → Rose f.puts g.puts ⊎ Rose o.faults n.faults
 write_rose c f g o n (halted status h stays p) e =
     ⊎_elim (λ all. absurd (halt_write c f g (subst (λ (s : Outcome). IsHalt c f g s) (sym all.1 ∙ e) h))) (λ part. inr part.0.rose) p
 write_rose c f g o n (answered command a is_c is after p) e =
-    ⊎_elim (λ all. unreal (outcome_of a) WriteFault (sym all.1 ∙ e) is.real (λ x. x)) (λ part. inr part.0.rose) p
+    ⊎_elim (λ all. unreal (outcome_of a) WriteFault (sym all.1 ∙ e) (may_real command a is.may) (λ x. x)) (λ part. inr part.0.rose) p
 write_rose c f g o n (cut command name bytes line is_c is partly rose taken) e = inl rose
 
 unchanged : (m : Contents) (a : Answer) → outcome_of a ≢ Done → contents_after m a ≡ m
@@ -264,20 +269,61 @@ whole_line c f g o n b (answered command a is_c is after p) told =
     ⊎_elim (λ all. subst P (sym all.1) (subst Q (sym is_c) (refused_of command a b n.bytes (all.0.bytes b told)))) (λ part. subst P (sym part.1) tt) p
 whole_line c f g o n b (cut command name bytes line is_c is partly rose taken) told = tt
 
-pub part_of_line : (c : Option Request) (f g : FilesNow) (o n : SinkNow) (m : Contents) (b : List ℕ) {result : Outcome} → Runs c f g o n result → f.contents ≡ Some m → o.bytes ≡ Some b → result ≡ WriteFault → (line p : List ℕ) × IsLine c m line × IsPrefixOf p line × (n.bytes ≡ Some (b ++ p))
-part_of_line c f g o n m b (halted status h stays p) told took e =
+part_by : (Kind : Request → Answer → Type 0) (c : Option Request) (f g : FilesNow) (o n : SinkNow) (b : List ℕ) {result : Outcome} → Runs c f g o n result → ((command : Request) (a : Answer) → IsTheAnswer command f a → Kind command a) → o.bytes ≡ Some b → result ≡ WriteFault → (line p : List ℕ) × IsLineOf Kind c line × IsPrefixOf p line × (n.bytes ≡ Some (b ++ p))
+part_by Kind c f g o n b (halted status h stays p) kind took e =
     ⊎_elim
     (λ all. absurd (halt_write c f g (subst (λ (s : Outcome). IsHalt c f g s) (sym all.1 ∙ e) h)))
-    (λ part. let x = part.0.bytes b took in (refusal_line (asked_of c) status, x.0, halt_line c f g m status h, x.1, x.2))
+    (λ part. let x = part.0.bytes b took in (refusal_line (asked_of c) status, x.0, halt_line Kind c f g status h, x.1, x.2))
     p
-part_of_line c f g o n m b (answered command a is_c is after p) told took e =
+part_by Kind c f g o n b (answered command a is_c is after p) kind took e =
     ⊎_elim
-    (λ all. unreal (outcome_of a) WriteFault (sym all.1 ∙ e) is.real (λ x. x))
+    (λ all. unreal (outcome_of a) WriteFault (sym all.1 ∙ e) (may_real command a is.may) (λ x. x))
     (λ part.
     let x = part.0.bytes b took in
-    let line : IsLine (Some command) m (printed command a) = inl (a, is.is m told, refl) in
-    (printed command a, x.0, subst (λ (x : Option Request). IsLine x m (printed command a)) (sym is_c) line, x.1, x.2))
+    let line : IsLineOf Kind (Some command) (printed command a) = inl (a, kind command a is, refl) in
+    (printed command a, x.0, subst (λ (x : Option Request). IsLineOf Kind x (printed command a)) (sym is_c) line, x.1, x.2))
     p
-part_of_line c f g o n m b (cut command name bytes line is_c is partly rose taken) told took e =
-    let is_line : IsLine (Some command) m line = inl (Puts name bytes line, is.is m told, refl) in
-    (line, [], subst (λ (x : Option Request). IsLine x m line) (sym is_c) is_line, (line, refl), taken ∙ took ∙ ap (λ (l : List ℕ). Some l) (sym (append-nil b)))
+part_by Kind c f g o n b (cut command name bytes line is_c is partly rose taken) kind took e =
+    let is_line : IsLineOf Kind (Some command) line = inl (Puts name bytes line, kind command (Puts name bytes line) is, refl) in
+    (line, [], subst (λ (x : Option Request). IsLineOf Kind x line) (sym is_c) is_line, (line, refl), taken ∙ took ∙ ap (λ (l : List ℕ). Some l) (sym (append-nil b)))
+
+pub part_of_line : (c : Option Request) (f g : FilesNow) (o n : SinkNow) (m : Contents) (b : List ℕ) {result : Outcome} → Runs c f g o n result → f.contents ≡ Some m → o.bytes ≡ Some b → result ≡ WriteFault → (line p : List ℕ) × IsLine c m line × IsPrefixOf p line × (n.bytes ≡ Some (b ++ p))
+part_of_line c f g o n m b runs told took e = part_by (λ command a. IsAnswer command m a) c f g o n b runs (λ command a is. is.is m told) took e
+
+-- the sink alone tells
+pub part_of_a_line : (c : Option Request) (f g : FilesNow) (o n : SinkNow) (b : List ℕ) {result : Outcome} → Runs c f g o n result → o.bytes ≡ Some b → result ≡ WriteFault → (line p : List ℕ) × MayPrint c line × IsPrefixOf p line × (n.bytes ≡ Some (b ++ p))
+part_of_a_line c f g o n b runs took e = part_by MayAnswer c f g o n b runs (λ command a is. is.may) took e
+
+pub done_line : (c : Option Request) (f g : FilesNow) (o n : SinkNow) (b : List ℕ) {result : Outcome} → Runs c f g o n result → o.bytes ≡ Some b → result ≡ Done → (line : List ℕ) × IsDoneLine c line × (n.bytes ≡ Some (b ++ line))
+done_line c f g o n b (halted status h stays p) took e =
+    ⊎_elim (λ all. absurd (halt_done c f g (subst (λ (s : Outcome). IsHalt c f g s) (sym all.1 ∙ e) h))) (λ part. no_fault part.1 e (λ x. cc)) p
+done_line c f g o n b (answered command a is_c is after p) took e =
+    ⊎_elim
+    (λ all.
+    let line : IsDoneLine (Some command) (printed command a) = may_line command a is.may (sym all.1 ∙ e) in
+    (printed command a, subst (λ (x : Option Request). IsDoneLine x (printed command a)) (sym is_c) line, all.0.bytes b took))
+    (λ part. no_fault part.1 e (λ x. cc))
+    p
+done_line c f g o n b (cut command name bytes line is_c is partly rose taken) took e = absurd cc
+
+-- ---- after a fault in writing
+
+-- the sink did not fail, so a put did
+pub nothing_printed : (c : Option Request) (f g : FilesNow) (o n : SinkNow) {result : Outcome} → Runs c f g o n result → result ≡ WriteFault → (Rose o.faults n.faults → ⊥) → n.bytes ≡ o.bytes
+nothing_printed c f g o n (halted status h stays p) e not_rose =
+    ⊎_elim (λ all. absurd (halt_write c f g (subst (λ (s : Outcome). IsHalt c f g s) (sym all.1 ∙ e) h))) (λ part. absurd (not_rose part.0.rose)) p
+nothing_printed c f g o n (answered command a is_c is after p) e not_rose =
+    ⊎_elim (λ all. unreal (outcome_of a) WriteFault (sym all.1 ∙ e) (may_real command a is.may) (λ x. x)) (λ part. absurd (not_rose part.0.rose)) p
+nothing_printed c f g o n (cut command name bytes line is_c is partly rose taken) e not_rose = taken
+
+holds_whole : (c : Option Request) (m : Contents) (n : Option Contents) → n ≡ Some m → HoldsWhole c m n
+holds_whole None m n e = e
+holds_whole (Some c) m n e = inl e
+
+-- no put failed, so nothing stands in part
+pub put_whole : (c : Option Request) (f g : FilesNow) (o n : SinkNow) (m : Contents) {result : Outcome} → Runs c f g o n result → f.contents ≡ Some m → (Rose f.puts g.puts → ⊥) → HoldsWhole c m g.contents
+put_whole c f g o n m (halted status h stays p) told not_rose = holds_whole c m g.contents (stays ∙ told)
+put_whole c f g o n m (answered command a is_c is after p) told not_rose =
+    let whole : HoldsWhole (Some command) m g.contents = inr (a, is.is m told, after m told) in
+    subst (λ (x : Option Request). HoldsWhole x m g.contents) (sym is_c) whole
+put_whole c f g o n m (cut command name bytes line is_c is partly rose taken) told not_rose = absurd (not_rose rose)

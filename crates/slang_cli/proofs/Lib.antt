@@ -7,6 +7,7 @@ pub mod Compiled
 pub mod Delivery
 pub mod Carried
 pub mod Called
+pub mod Possible
 pub mod Clauses
 pub mod OneAnswer
 pub mod Meant

@@ -1,5 +1,5 @@
 -- From the command's answer to what the words that are put mean.
-use Rattle.std.proofs.Common.{◌≡◌, ⊎_elim, ℕ, ◌≤◌, List, length, Option, Some, None, refl, sym, ◌∙◌, subst}
+use Rattle.std.proofs.Common.{◌≡◌, ⊎_elim, ℕ, ◌≤◌, List, [], ◌∷◌, length, Option, Some, refl, sym, ◌∙◌, subst}
 use Rattle.behavior.specs.Meanings.{Agree}
 use Rattle.slang_names.specs.declared.names.Ref.{Ref}
 use Rattle.slang_store.specs.Contents.{Contents, with_entry}
@@ -7,6 +7,7 @@ use Rattle.spirv_words.specs.Strings.{IsText}
 use Rattle.spirv_words.specs.Words.{CanBeSpelled, image_words}
 use Rattle.spirv_words.specs.Runs.{words}
 use Rattle.spirv_check.specs.Valid.{Valid}
+use Rattle.spirv_check.specs.Entry.{entry_name, group_size}
 use Rattle.first_form.specs.declared.shader.Shader.{Shader}
 use Rattle.slang_tree.specs.declared.file.File.{File}
 use Rattle.first_form.specs.Shaders.{IsShader}
@@ -18,6 +19,7 @@ use Rattle.slang_outcomes.specs.declared.outcome.Outcome.TheVariants.{Done, Writ
 use Rattle.slang_cli.specs.Commands.{Request, Compile}
 use Rattle.slang_cli.specs.Answers.{Answer, Compiles, absent, not_parsed, not_yet, no_entry, puts, IsAnswer, IsTold, ImageIsTold, IfPuts, outcome_of, contents_after}
 use Rattle.slang_cli.specs.Outside.{FilesNow, SinkNow, IsHalt, Runs, halted, answered, cut}
+use Rattle.slang_cli.proofs.Clauses.{halt_done}
 use Rattle.slang_cli.specs.Calls.{Means}
 use Rattle.slang_cli.proofs.Told.{read_again}
 
@@ -26,12 +28,10 @@ pub record Laws : Type 0 where
   pub agree : (home : List ℕ) (shader : Shader) → Agree (source shader) (words (image_of home shader))
   pub spelled : (home : List ℕ) (shader : Shader) → IsText home → length home ≤ 64 → IsShader shader → CanBeSpelled (image_of home shader)
   pub valid : (home : List ℕ) (shader : Shader) → IsText home → length home ≤ 64 → IsShader shader → Valid (image_of home shader)
+  pub name : (home : List ℕ) (shader : Shader) → IsShader shader → entry_name (image_of home shader).instructions ≡ shader.entry
+  pub group : (home : List ℕ) (shader : Shader) → IsShader shader → group_size (image_of home shader).instructions ≡ shader.group.x ∷ shader.group.y ∷ shader.group.z ∷ []
   pub shader : (file : File) (shader : Shader) → form_of file ≡ Some shader → IsShader shader
   pub here : (m : Contents) (name bytes : List ℕ) → with_entry m name bytes name ≡ Some bytes
-
-halt_done : (c : Option Request) (f g : FilesNow) → IsHalt c f g Done → ⊥
-halt_done None f g h = h
-halt_done (Some c) f g h = h
 
 module _ (laws : Laws) (m : Contents) (entry : Ref) (image home : List ℕ) (text : IsText home) (short : length home ≤ 64) where
   compiled_means : {a : Answer} → Compiles m entry image home a → IfPuts a (ImageIsTold m home) → outcome_of a ≡ Done → Means entry image home m (contents_after m a)
@@ -51,6 +51,8 @@ module _ (laws : Laws) (m : Contents) (entry : Ref) (image home : List ℕ) (tex
     put = laws.here m image _;
     spelled = record { can_be = laws.spelled home s text short is_shader; are = refl };
     read_again = record { words = read_again home s (told t s p f) (laws.spelled home s text short is_shader); valid = laws.valid home s text short is_shader };
+    entry_is_named = laws.name home s is_shader ∙ sym is_entry.path_is;
+    group_is = laws.group home s is_shader;
     agree = laws.agree home s;
   }
 

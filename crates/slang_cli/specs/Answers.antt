@@ -119,6 +119,11 @@ answer_of r (came.Ran text invocations steps) = Puts r.out text (line (decimal i
 abbrev pub RunAnswers : Contents → RunRequest → Answer → Type 0
 RunAnswers m r answer = (came : Came) × Comes m r came × (answer ≡ answer_of r came)
 
+-- an answer that a command may have, whatever the files hold: that over some files, or that of a run that comes to something
+abbrev pub MayAnswer : Request → Answer → Type 0
+MayAnswer (Compile entry image home) answer = (m : Contents) × Compiles m entry image home answer
+MayAnswer (Run run) answer = (came : Came) × (answer ≡ answer_of run came)
+
 -- the answer to a command, over what the files hold
 abbrev pub IsAnswer : Request → Contents → Answer → Type 0
 IsAnswer (Compile entry image home) m answer = Compiles m entry image home answer

@@ -6,7 +6,7 @@ use Rattle.slang_outcomes.specs.declared.outcome.Outcome.{Outcome}
 use Rattle.slang_outcomes.specs.declared.outcome.Outcome.TheVariants.{Words, ReadFault, WriteFault, Memory}
 use Rattle.slang_cli.specs.Commands.{Request, asked_of}
 use Rattle.slang_outcomes.specs.Lines.{refusal_line}
-use Rattle.slang_cli.specs.Answers.{Answer, Puts, IsAnswer, IsTold, IfPuts, outcome_of, printed, contents_after}
+use Rattle.slang_cli.specs.Answers.{Answer, Puts, IsAnswer, MayAnswer, IsTold, IfPuts, outcome_of, printed, contents_after}
 
 -- the files: what they hold, where it is told, and how many reads and puts failed
 pub record FilesNow : Type 0 where
@@ -40,18 +40,10 @@ IsHalt (Some c) f g ReadFault = Rose f.reads g.reads
 IsHalt (Some c) f g Memory = Unit {0}
 IsHalt (Some c) f g status = ⊥
 
--- a status that tells of the words and the files alone
-abbrev pub IsReal : Outcome → Type 0
-IsReal Words = ⊥
-IsReal ReadFault = ⊥
-IsReal WriteFault = ⊥
-IsReal Memory = ⊥
-IsReal status = Unit {0}
-
--- this is the command's answer, over what the files hold where that is told
+-- this is the command's answer, over what the files hold where that is told, and else one that it may have
 pub record IsTheAnswer (c : Request) (f : FilesNow) (a : Answer) : Type 0 where
   pub is : (m : Contents) → f.contents ≡ Some m → IsAnswer c m a
-  pub real : IsReal (outcome_of a)
+  pub may : MayAnswer c a
   pub told : (m : Contents) → f.contents ≡ Some m → IfPuts a (IsTold c m)
 
 -- how a call goes
