@@ -18,7 +18,7 @@ use Rattle.module_scope.specs.Declarations.{Declaration, Node, a_function, decla
 use Rattle.module_scope.specs.Twice.{twice_line}
 use Rattle.type_lines.specs.Classes.{Answer, Does, checks, some_heads, some_bodies, bodies, modules}
 use Rattle.type_rules.specs.HeadPlans.{outline_of, next_head, settled, place_of}
-use Rattle.type_rules.specs.StatementPlans.{body_plan}
+use Rattle.type_rules.specs.StatementPlans.{certain, body_plan}
 use Rattle.type_rules.specs.Containment.{containment_line}
 use Rattle.type_rules.specs.Cores.{core_of}
 
@@ -50,7 +50,7 @@ abbrev pub add_body : List Body → Body → Verdict (List Body)
 add_body done x = Good (done ++ x ∷ [])
 
 abbrev pub function_body : Outline → Declaration → Node → List Body → Option Signature → Does some_bodies
-function_body o d (a_function attrs x) done (Some h) = then (body_plan x h o) (λ y. line (add_body done y))
+function_body o d (a_function attrs x) done (Some h) = part (body_plan x h o) (λ a. line (certain x.place a (add_body done)))
 function_body o d (a_function attrs x) done None = line (Wrong x.place k.NotConstant)
 function_body o d other done h = line (Good done)
 
