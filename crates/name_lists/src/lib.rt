@@ -1,0 +1,6 @@
+//! Names in order, each found by its bytes.
+#![tactic(auto)]
+
+mod lists;
+
+pub use lists::NameList;

@@ -1,0 +1,2 @@
+pub mod TypePlans
+pub mod ExprPlans

@@ -1,0 +1,2 @@
+//! What is judged of types and expressions, and in which order.
+#![tactic(auto)]

@@ -1,0 +1,5 @@
+pub mod StatementPlans
+pub mod HeadPlans
+pub mod Containment
+pub mod Cores
+pub mod Modules
