@@ -1,11 +1,29 @@
-// Texts that are parsed.
+//! `parse_speed`: how fast texts are parsed that are hard on a parser. Without a word each text has up to 2,000 bytes, and what
+//! comes of it is printed. With a number of bytes, at most 1,048,576, the milliseconds are printed too.
+#![tactic(auto)]
 
-use crate::texts::{TEXTS, Text};
+mod texts;
+
 use slang_names::ModuleFault;
 use slang_parse::parse;
 use std::alloc::Global;
-use std::io;
 use std::time::Instant;
+use std::{env, io};
+use texts::{TEXTS, Text};
+
+/// How many bytes a text has at most, and whether they were asked for.
+fn room(rt: &HostRuntime) -> io::Result<(usize, bool)> {
+    let mut args = env::args(rt)?;
+    let _program = args.next();
+    let asked = match args.next() {
+        Some(word) => word.parse::<u32>().ok(),
+        None => None,
+    };
+    match asked {
+        Some(n) => Ok((n.min(1_048_576) as usize, true)),
+        None => Ok((2_000, false)),
+    }
+}
 
 /// The text with as many units as fit into so many bytes.
 fn made(alloc: Global, text: &Text, room: usize) -> io::Result<Vec<u8>> {
@@ -22,7 +40,7 @@ fn made(alloc: Global, text: &Text, room: usize) -> io::Result<Vec<u8>> {
 }
 
 /// Parses the text, and prints what came of it.
-fn measure(rt: &HostRuntime, text: &Text, room: usize, timed: bool) -> io::Result<()> {
+fn measure(rt: &HostRuntime, text: &Text, room: usize, asked: bool) -> io::Result<()> {
     let bytes = made(rt.alloc(), text, room)?;
     let start = Instant::now(rt)?;
     let answer = parse(rt.alloc(), bytes.as_slice());
@@ -35,16 +53,16 @@ fn measure(rt: &HostRuntime, text: &Text, room: usize, timed: bool) -> io::Resul
         }
         Err(ModuleFault::Memory(_)) => println!(rt; "{name}: no memory")?,
     }
-    if timed {
+    if asked {
         println!(rt; "{} bytes, {} ms", bytes.len(), time.as_millis())?;
     }
     Ok(())
 }
 
-/// Parses each text at the size of so many bytes, with the time where it is asked for.
-pub fn parse_texts(rt: &HostRuntime, room: usize, timed: bool) -> io::Result<()> {
+fn main(rt: HostRuntime) -> io::Result<()> {
+    let (room, asked) = room(&rt)?;
     for text in TEXTS.iter() {
-        measure(rt, text, room, timed)?;
+        measure(&rt, text, room, asked)?;
     }
     Ok(())
 }
