@@ -1,7 +1,6 @@
 -- Expressions and lists in braces: the parts of each node and its line.
-use Rattle.std.specs.Prelude.{ℕ, Bool, true, false, List, [], ◌∷◌, ◌++◌, map, length, Option, Some, None}
+use Rattle.std.specs.Prelude.{true, false, List, [], ◌∷◌, ◌++◌, length, Option, Some, None}
 use Rattle.slang_names.specs.declared.places.Place.{Place}
-use Rattle.slang_tree.specs.declared.types.GenericArgument.{GenericArgument}
 use Rattle.slang_tree.specs.declared.expressions.ExprTree.{ExprTree, fold-ExprTree}
 use Rattle.slang_tree.specs.declared.expressions.ExprNode.{ExprNode, fold-ExprNode}
 use Rattle.slang_tree.specs.declared.expressions.ExprNode.TheOpen.{ExprNode-F, ExprTree-F}
@@ -12,7 +11,7 @@ use Rattle.slang_tree.specs.declared.statements.Initializer.TheOpen.{Initializer
 use Rattle.slang_tree.specs.declared.statements.Initializer.TheOpen as l
 use Rattle.slang_core.specs.declared.types.TypeTerm.{TypeTerm}
 use Rattle.type_terms.specs.declared.typings.Typing.{Typing}
-use Rattle.plans.specs.Plans.{Plan, line, part, one, two, three, then, walk, Verdict, Fine, Good, Held, with_one, with_two, with_last, flat}
+use Rattle.plans.specs.Plans.{line, part, one, two, three, walk, Fine, Good, Held, with_one, with_two, with_last, flat}
 use Rattle.module_scope.specs.declared.heads.Outline.{Outline}
 use Rattle.module_scope.specs.declared.frames.InForce.{InForce}
 use Rattle.module_scope.specs.declared.frames.Within.{Within}

@@ -1,2 +1,3 @@
 pub mod TypePlans
 pub mod ExprPlans
+pub mod Needs

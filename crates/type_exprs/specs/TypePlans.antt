@@ -1,5 +1,5 @@
 -- Types: the parts of each node and its line.
-use Rattle.std.specs.Prelude.{ℕ, Bool, true, false, ◌||◌, List, [], ◌∷◌, ◌++◌, reverse, Option, Some, None, Result, Ok}
+use Rattle.std.specs.Prelude.{ℕ, Bool, true, false, List, [], reverse, Option, Some, None, Result, Ok}
 use Rattle.slang_names.specs.declared.places.Place.{Place}
 use Rattle.slang_tree.specs.declared.types.Identifier.{Identifier}
 use Rattle.slang_tree.specs.declared.types.Term.{Term}
@@ -9,7 +9,7 @@ use Rattle.slang_tree.specs.declared.types.GenericArgument.TheOpen.{GenericArgum
 use Rattle.slang_tree.specs.declared.types.GenericArgument.TheOpen as t
 use Rattle.slang_tree.specs.declared.statements.DeclaredName.{DeclaredName}
 use Rattle.slang_core.specs.declared.types.TypeTerm.{TypeTerm}
-use Rattle.plans.specs.Plans.{Plan, line, part, one, then, walk, Good}
+use Rattle.plans.specs.Plans.{line, one, walk}
 use Rattle.slang_names.specs.declared.codes.ModuleCode.{ModuleCode}
 use Rattle.module_scope.specs.declared.declared.OwnKind.{OwnKind}
 use Rattle.module_scope.specs.declared.declared.OwnKind.TheVariants as own
@@ -19,12 +19,12 @@ use Rattle.module_scope.specs.declared.heads.Outline.{Outline}
 use Rattle.module_scope.specs.declared.heads.Spelling.{Spelling}
 use Rattle.module_scope.specs.declared.frames.InForce.{InForce}
 use Rattle.module_scope.specs.declared.frames.Within.{Within}
-use Rattle.module_scope.specs.Sees.{Found, a_local, a_member, an_own, look_up, member_named}
+use Rattle.module_scope.specs.Sees.{Found, a_member, an_own, look_up, member_named}
 use Rattle.module_scope.specs.Known.{nothing_spelled, spelling_at}
 use Rattle.type_lines.specs.declared.answers.Standing.{Standing}
 use Rattle.type_lines.specs.declared.answers.Standing.TheVariants as st
 use Rattle.type_lines.specs.Asked.{is_empty}
-use Rattle.type_lines.specs.Classes.{Does, types, named_types}
+use Rattle.type_lines.specs.Classes.{Does, types}
 use Rattle.type_lines.specs.TypeLines.{builtin_line, this_type_line, type_name_line, resource_line, nested_line, array_line, length_of}
 
 abbrev pub TypePlan : Type 0

@@ -37,7 +37,7 @@ pub data Class : Type 0 where
 
 abbrev pub Answer : Class → Type 0
 Answer types = TypeTerm
-Answer named_types = List TypeTerm
+Answer named_types = Option (List TypeTerm)
 Answer parameters = Option (List Par)
 Answer denotes = Denoted
 Answer values = Typing

@@ -141,9 +141,15 @@ signature d owner prefix attrs x t pars entry = record {
   entry = entry;
 }
 
--- the line of a function, of an entry the last of its head
+-- how a function is called. What it is as an entry is known of the others too where it is none that can be started
 abbrev pub function_head : Declared → Option ℕ → List ℕ → List Attribute → Function → TypeTerm → List Par → Verdict Head
-function_head d owner prefix attrs x t pars = demand (is_plain x.generics [] x.wheres) x.place k.NotYet
-    (cond (has_entry_word attrs)
-    (found (entry_of x attrs t pars) x.name.place k.EntryShape (λ e. Good (h.Function (signature d owner prefix attrs x t pars (Some e)))))
-    (Good (h.Function (signature d owner prefix attrs x t pars None))))
+function_head d owner prefix attrs x t pars =
+    demand (is_plain x.generics [] x.wheres) x.place k.NotYet (Good (h.Function (signature d owner prefix attrs x t pars (entry_of x attrs t pars))))
+
+-- the line of an entry: with an attribute of entries a function can be started
+abbrev pub can_start : Signature → Bool
+can_start s = not s.is_entry || is_there s.entry
+
+abbrev pub entry_line : Place → Head → Verdict Head
+entry_line p (h.Function s) = demand (can_start s) p k.EntryShape (Good (h.Function s))
+entry_line p other = Good other

@@ -106,8 +106,11 @@ reach_alone o w h = cond h.flags.is_static reach.ByType (by_this w (subject_type
 abbrev pub function_line : Outline → Place → Use → ℕ → (Signature → Reach) → Verdict Denoted
 function_line o p role n how = demand (is_called role) p k.Mismatch (known (function_at o n) (λ h. Good (callee n (how h))))
 
+-- an alias where a value is wanted, or called, is refused whatever it stands for
 abbrev pub alias_kind : Outline → Place → Use → ℕ → Verdict Denoted
-alias_kind o p role n = known (alias_at o n) (kind_line p role)
+alias_kind o p u.Qualifier n = known (alias_at o n) (λ t. Good (d.Kind (Some t)))
+alias_kind o p u.Called n = Good (d.Kind None)
+alias_kind o p role n = Wrong p k.Mismatch
 
 abbrev pub struct_kind : Outline → Place → Use → ℕ → Verdict Denoted
 struct_kind o p role s = known (struct_type o.declared s) (kind_line p role)

@@ -96,6 +96,7 @@ abbrev pub length_of : Outline → Within → List InForce → Term → Option (
 length_of o w blocks (n.Number p x) = Some (Some x.value)
 length_of o w blocks (n.Name x) = length_found o (look_up o.declared w.subject blocks x.name x.place.start)
 
+-- an array has one node more than its elements, and 4,096 at most
 abbrev pub array_line : Place → Option (Option ℕ) → TypeTerm → Verdict TypeTerm
 array_line p length x = known length (λ l. found l p k.NotConstant (λ n.
     demand (nat_le 1 n && nat_le n 65536) p k.ArrayLength

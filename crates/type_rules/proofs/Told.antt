@@ -1,5 +1,5 @@
 -- A module's verdict is never that it is passed over.
-use Rattle.std.proofs.Common.{◌≡◌, ◌⊎◌, inl, inr, ℕ, Bool, true, false, cond, List, [], ◌∷◌, ◌++◌, Option, Some, None, bytes_eq, refl, sym, ◌∙◌, ap}
+use Rattle.std.proofs.Common.{◌≡◌, ◌⊎◌, inl, inr, ℕ, Bool, true, false, not, cond, List, [], ◌∷◌, ◌++◌, Option, Some, None, bytes_eq, refl, ap, subst}
 use Rattle.slang_names.specs.declared.places.Place.{Place}
 use Rattle.slang_names.specs.declared.codes.ModuleCode.{ModuleCode}
 use Rattle.slang_names.specs.declared.codes.ModuleCode.TheVariants as k
@@ -7,9 +7,10 @@ use Rattle.slang_tree.specs.declared.file.File.{File}
 use Rattle.slang_tree.specs.declared.file.ModuleLine.{ModuleLine}
 use Rattle.slang_core.specs.declared.bodies.Body.{Body}
 use Rattle.slang_core.specs.declared.declarations.CoreModule.{CoreModule}
-use Rattle.plans.specs.Plans.{Verdict, Fine, Good, Held, Wrong, Plan, line, part, onward, run, when, then, walk}
+use Rattle.plans.specs.Plans.{Verdict, Fine, Good, Wrong, line, onward, run, when, then, walk, Comes}
 use Rattle.plans.specs.Lines.{demand}
 use Rattle.plans.proofs.Exact.{comes_iff, wrong_iff}
+use Rattle.early_forms.specs.Early.{has_early_form}
 use Rattle.module_scope.specs.declared.heads.Head.{Head}
 use Rattle.module_scope.specs.declared.heads.Outline.{Outline}
 use Rattle.module_scope.specs.declared.heads.Signature.{Signature}
@@ -17,10 +18,12 @@ use Rattle.module_scope.specs.Known.{function_at}
 use Rattle.module_scope.specs.Declarations.{Declaration, Node, a_struct, an_alias, a_function, some_fields, a_constant, a_global, an_unbuilt, declarations}
 use Rattle.module_scope.specs.Twice.{twice_line, refused_twice, first_twice, all_names}
 use Rattle.type_lines.specs.Classes.{Class, Answer, Does, checks, modules, some_heads, some_bodies}
-use Rattle.type_rules.specs.HeadPlans.{head_plan, next_head, settled, outline_of}
+use Rattle.type_rules.specs.HeadPlans.{judged_plan, next_head, settled, outline_of}
 use Rattle.type_rules.specs.StatementPlans.{certain, body_plan}
-use Rattle.type_rules.specs.Containment.{self_line, containment_line, leads}
-use Rattle.type_rules.specs.Modules.{own_name_line, own_import, no_import, imported, imports_line, add_body, function_body, next_body, first, judged, bodies_plan, behind_heads, heads_plan, declarations_plan, module_plan, ModuleOK, FirstWrong}
+use Rattle.type_rules.specs.Leading.{leads}
+use Rattle.type_rules.specs.HeadNeeds.{needs_of}
+use Rattle.type_rules.specs.Containment.{self_line, containments, containment_line}
+use Rattle.type_rules.specs.Modules.{own_name_line, own_import, no_import, imported, imports_line, add_body, function_body, next_body, first, judged, bodies_plan, behind_heads, heads_plan, declarations_plan, names_plan, nowhere, built_line, module_plan, ModuleOK, FirstWrong}
 
 -- an answer or a refusal
 abbrev IsTold : {A : Type 0} → Verdict A → Type 0
@@ -78,18 +81,18 @@ told_cond : (b : Bool) (p : Place) (c : ModuleCode) (v : Verdict (Unit {0})) →
 told_cond true p c v h = tt
 told_cond false p c v h = h
 
-told_self : (o : Outline) (n : Node) (v : Verdict (Unit {0})) → IsTold v → IsTold (self_line o n v)
-told_self o (a_struct s name place plain) v h = told_cond (leads o s s) name.place k.SelfContaining v h
-told_self o (an_alias x) v h = h
-told_self o (a_function attrs x) v h = h
-told_self o (some_fields x) v h = h
-told_self o (a_constant x) v h = h
-told_self o (a_global attrs x) v h = h
-told_self o (an_unbuilt p) v h = h
+told_self : (es : List (ℕ × ℕ)) (n : Node) (v : Verdict (Unit {0})) → IsTold v → IsTold (self_line es n v)
+told_self es (a_struct s name place plain) v h = told_cond (leads es s s) name.place k.SelfContaining v h
+told_self es (an_alias x) v h = h
+told_self es (a_function attrs x) v h = h
+told_self es (some_fields x) v h = h
+told_self es (a_constant x) v h = h
+told_self es (a_global attrs x) v h = h
+told_self es (an_unbuilt p) v h = h
 
-told_containment : (o : Outline) (ds : List Declaration) → IsTold (containment_line o ds)
-told_containment o [] = tt
-told_containment o (d ∷ ds) = told_self o d.node (containment_line o ds) (told_containment o ds)
+told_containment : (es : List (ℕ × ℕ)) (ds : List Declaration) → IsTold (containment_line es ds)
+told_containment es [] = tt
+told_containment es (d ∷ ds) = told_self es d.node (containment_line es ds) (told_containment es ds)
 
 told_certain : (p : Place) (done : List Body) (a : Option Body) → IsTold (certain p a (add_body done))
 told_certain p done (Some a) = tt
@@ -109,18 +112,21 @@ told_bodies : (name : List ℕ) (o : Outline) (ds : List Declaration) → IsTold
 told_bodies name o ds = told_then {c = modules} {d = some_bodies} (walk (next_body o) ds []) _ (told_walk (next_body o) ds [] (λ d done. told_body o d d.node done (function_at o d.number))) (λ xs. tt)
 
 told_heads : (name : List ℕ) (o : Outline) (ds : List Declaration) → IsTold (run (heads_plan name o ds))
-told_heads name o ds = told_then {c = modules} {d = some_heads} (walk (next_head o) ds []) (λ hs. first (settled ds hs) (behind_heads name (judged o hs) ds))
-    (told_walk (next_head o) ds [] (λ d done. told_always (run (head_plan d o)) (λ a. Good (done ++ a ∷ [])) (λ a. tt)))
+told_heads name o ds = told_then {c = modules} {d = some_heads} (walk (next_head o (needs_of o ds)) ds []) (λ hs. first (settled ds hs) (behind_heads name (judged o hs) ds))
+    (told_walk (next_head o (needs_of o ds)) ds [] (λ d done. told_always (run (judged_plan (needs_of o ds) d o)) (λ a. Good (done ++ a ∷ [])) (λ a. tt)))
     (λ hs. told_first (settled ds hs) (behind_heads name (judged o hs) ds) (told_settled ds hs)
-    (told_first (containment_line (judged o hs) ds) (bodies_plan name (judged o hs) ds) (told_containment (judged o hs) ds) (told_bodies name (judged o hs) ds)))
+    (told_first (containment_line (containments (judged o hs)) ds) (bodies_plan name (judged o hs) ds) (told_containment (containments (judged o hs)) ds) (told_bodies name (judged o hs) ds)))
 
 told_declarations : (name : List ℕ) (ds : List Declaration) → IsTold (run (declarations_plan name ds))
 told_declarations name ds = told_first (twice_line ds) (heads_plan name (outline_of name ds) ds) (told_twice (first_twice [] (all_names ds))) (told_heads name (outline_of name ds) ds)
 
-told_module : (name : List ℕ) (file : File) → IsTold (run (module_plan name file))
-told_module name file =
+told_names : (name : List ℕ) (file : File) → IsTold (run (names_plan name file))
+told_names name file =
     told_first (own_name_line name file.«module») (first (imports_line name file.imports) (declarations_plan name (declarations file))) (told_own_name name file.«module»)
     (told_first (imports_line name file.imports) (declarations_plan name (declarations file)) (told_imported (own_import name file.imports) file.imports) (told_declarations name (declarations file)))
+
+told_module : (name : List ℕ) (file : File) → IsTold (run (module_plan name file))
+told_module name file = told_first (built_line file) (names_plan name file) (told_demand (not (has_early_form file)) nowhere k.NotYet (Good tt) tt) (told_names name file)
 
 told_cases : {A : Type 0} (v : Verdict A) → IsTold v → ((a : A) × (v ≡ Good a)) ⊎ ((p : Place) × (k : ModuleCode) × (v ≡ Wrong p k))
 told_cases (Fine (Some a)) h = inl (a, refl)
@@ -165,3 +171,6 @@ rule_holds b p k v h = ap (λ c. demand c p k v) h
 
 pub rule_broken : {A : Type 0} (b : Bool) (p : Place) (k : ModuleCode) (v : Verdict A) → b ≡ false → demand b p k v ≡ Wrong p k
 rule_broken b p k v h = ap (λ c. demand c p k v) h
+
+pub never_open : (n : List ℕ) (f : File) → Comes modules (module_plan n f) None → ⊥
+never_open n f h = subst (λ v. IsTold v) ((comes_iff Answer modules (module_plan n f) None).0 h) (told_module n f)

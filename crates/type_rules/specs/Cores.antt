@@ -1,11 +1,9 @@
 -- The core of a module whose heads and bodies are known.
-use Rattle.std.specs.Prelude.{ℕ, Bool, true, false, cond, nat_eq, List, [], ◌∷◌, ◌++◌, slice_get, Option, Some, None}
+use Rattle.std.specs.Prelude.{ℕ, Bool, false, cond, nat_eq, List, [], ◌∷◌, ◌++◌, slice_get, Option, Some, None}
 use Rattle.std.specs.Option.{option_map}
 use Rattle.slang_names.specs.declared.places.Access.{Access}
 use Rattle.slang_names.specs.declared.names.Ref.{Ref}
 use Rattle.slang_tree.specs.declared.statements.DeclaredName.{DeclaredName}
-use Rattle.slang_tree.specs.declared.declarations.Alias.{Alias}
-use Rattle.slang_tree.specs.declared.types.Identifier.{Identifier}
 use Rattle.slang_core.specs.declared.types.TypeTerm.{TypeTerm}
 use Rattle.slang_core.specs.declared.bodies.Body.{Body}
 use Rattle.slang_core.specs.declared.declarations.CoreModule.{CoreModule}
@@ -14,13 +12,12 @@ use Rattle.slang_core.specs.declared.declarations.Decl.TheVariants as c
 use Rattle.slang_core.specs.declared.declarations.Field.{Field}
 use Rattle.slang_core.specs.declared.declarations.Bind.{Bind}
 use Rattle.slang_core.specs.declared.declarations.Params.{Params}
-use Rattle.type_terms.specs.declared.typings.Fixed.{Fixed}
 use Rattle.module_scope.specs.declared.heads.Head.{Head}
 use Rattle.module_scope.specs.declared.heads.Head.TheVariants as h
 use Rattle.module_scope.specs.declared.heads.Outline.{Outline}
 use Rattle.module_scope.specs.declared.heads.Signature.{Signature}
 use Rattle.module_scope.specs.Known.{head_at, fields_in, alias_in, struct_ref}
-use Rattle.module_scope.specs.Declarations.{Declaration, Node, a_struct, an_alias, a_function, some_fields, a_constant, a_global, an_unbuilt}
+use Rattle.module_scope.specs.Declarations.{Declaration, Node, a_struct, an_alias, a_function, some_fields, a_constant, a_global}
 
 abbrev pub no_params : Params
 no_params = record { list = []; constraints = [] }

@@ -1,5 +1,5 @@
 -- A module: the phases in their order.
-use Rattle.std.specs.Prelude.{ℕ, Bool, true, false, cond, bytes_eq, List, [], ◌∷◌, ◌++◌, Option, Some, None}
+use Rattle.std.specs.Prelude.{ℕ, not, cond, bytes_eq, List, [], ◌∷◌, ◌++◌, Option, Some, None}
 use Rattle.slang_names.specs.declared.places.Place.{Place}
 use Rattle.slang_names.specs.declared.codes.ModuleCode.{ModuleCode}
 use Rattle.slang_names.specs.declared.codes.ModuleCode.TheVariants as k
@@ -10,17 +10,26 @@ use Rattle.slang_core.specs.declared.declarations.CoreModule.{CoreModule}
 use Rattle.plans.specs.Plans.{Plan, line, part, then, walk, Verdict, Fine, Good, Held, Wrong}
 use Rattle.plans.specs.Plans as plans
 use Rattle.plans.specs.Lines.{demand}
+use Rattle.early_forms.specs.Early.{has_early_form}
 use Rattle.module_scope.specs.declared.heads.Head.{Head}
 use Rattle.module_scope.specs.declared.heads.Outline.{Outline}
 use Rattle.module_scope.specs.Known.{function_at}
 use Rattle.module_scope.specs.declared.heads.Signature.{Signature}
 use Rattle.module_scope.specs.Declarations.{Declaration, Node, a_function, declarations}
 use Rattle.module_scope.specs.Twice.{twice_line}
-use Rattle.type_lines.specs.Classes.{Answer, Does, checks, some_heads, some_bodies, bodies, modules}
-use Rattle.type_rules.specs.HeadPlans.{outline_of, next_head, settled, place_of}
+use Rattle.type_lines.specs.Classes.{Does, checks, some_bodies, modules}
+use Rattle.type_rules.specs.HeadPlans.{outline_of, next_head, settled}
 use Rattle.type_rules.specs.StatementPlans.{certain, body_plan}
-use Rattle.type_rules.specs.Containment.{containment_line}
+use Rattle.type_rules.specs.HeadNeeds.{needs_of}
+use Rattle.type_rules.specs.Containment.{containments, containment_line}
 use Rattle.type_rules.specs.Cores.{core_of}
+
+-- 199: a form that is not built yet stands in the file. It has no place
+abbrev pub nowhere : Place
+nowhere = record { start = 0; end = 0 }
+
+abbrev pub built_line : File → Verdict (Unit {0})
+built_line file = demand (not (has_early_form file)) nowhere k.NotYet (Good tt)
 
 -- 136: the module line names another module
 abbrev pub own_name_line : List ℕ → Option ModuleLine → Verdict (Unit {0})
@@ -70,16 +79,20 @@ abbrev pub bodies_plan : List ℕ → Outline → List Declaration → Does modu
 bodies_plan name o ds = then (walk (next_body o) ds []) (λ xs. line (Good (core_of name o ds xs)))
 
 abbrev pub behind_heads : List ℕ → Outline → List Declaration → Does modules
-behind_heads name o ds = first (containment_line o ds) (bodies_plan name o ds)
+behind_heads name o ds = first (containment_line (containments o) ds) (bodies_plan name o ds)
 
 abbrev pub heads_plan : List ℕ → Outline → List Declaration → Does modules
-heads_plan name o ds = then (walk (next_head o) ds []) (λ hs. first (settled ds hs) (behind_heads name (judged o hs) ds))
+heads_plan name o ds = then (walk (next_head o (needs_of o ds)) ds []) (λ hs. first (settled ds hs) (behind_heads name (judged o hs) ds))
 
 abbrev pub declarations_plan : List ℕ → List Declaration → Does modules
 declarations_plan name ds = first (twice_line ds) (heads_plan name (outline_of name ds) ds)
 
+abbrev pub names_plan : List ℕ → File → Does modules
+names_plan name file = first (own_name_line name file.module) (first (imports_line name file.imports) (declarations_plan name (declarations file)))
+
+-- before all else, a file with a form that is not built yet is refused as such
 abbrev pub module_plan : List ℕ → File → Does modules
-module_plan name file = first (own_name_line name file.module) (first (imports_line name file.imports) (declarations_plan name (declarations file)))
+module_plan name file = first (built_line file) (names_plan name file)
 
 -- the module is right, and this is its core
 abbrev pub ModuleOK : List ℕ → File → CoreModule → Type 0

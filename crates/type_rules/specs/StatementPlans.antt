@@ -1,6 +1,6 @@
 -- Statements and bodies: the parts of each node and its line. In bodies nothing is passed over, since all heads have a
 -- typing by then.
-use Rattle.std.specs.Prelude.{ℕ, ◌+◌, ◌-◌, Bool, true, false, ◌&&◌, ◌||◌, not, cond, List, [], ◌∷◌, ◌++◌, map, length, Option, Some, None}
+use Rattle.std.specs.Prelude.{ℕ, ◌+◌, ◌-◌, Bool, true, false, ◌&&◌, ◌||◌, not, List, [], ◌∷◌, ◌++◌, map, length, Option, Some, None}
 use Rattle.slang_names.specs.declared.places.Place.{Place}
 use Rattle.slang_names.specs.declared.codes.ModuleCode.TheVariants as k
 use Rattle.slang_tree.specs.declared.expressions.ExprTree.{ExprTree}
@@ -28,7 +28,7 @@ use Rattle.slang_core.specs.declared.bodies.Stat.TheVariants as core
 use Rattle.slang_core.specs.declared.bodies.Body.{Body}
 use Rattle.type_terms.specs.declared.typings.Typing.{Typing}
 use Rattle.type_terms.specs.Types.{is_void}
-use Rattle.plans.specs.Plans.{Plan, line, part, then, walk, Verdict, Fine, Good, Held, Wrong}
+use Rattle.plans.specs.Plans.{line, part, then, walk, Verdict, Good, Wrong}
 use Rattle.plans.specs.Lines.{demand, and_then}
 use Rattle.module_scope.specs.declared.heads.Outline.{Outline}
 use Rattle.module_scope.specs.declared.heads.Signature.{Signature}

@@ -1,4 +1,3 @@
-use Rattle.std.proofs.Common.{◌≡◌}
 use Rattle.plans.proofs.Exact.{comes_iff, wrong_iff}
 use Rattle.type_lines.specs.Classes.{Answer}
 use Rattle.type_rules.proofs.laws.each_node_has_one_verdict.Goals as goal

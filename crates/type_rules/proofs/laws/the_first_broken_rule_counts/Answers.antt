@@ -1,4 +1,3 @@
-use Rattle.type_lines.specs.Classes.{Answer}
 use Rattle.type_rules.proofs.Told.{rule_holds, rule_broken}
 use Rattle.type_rules.proofs.laws.the_first_broken_rule_counts.Goals as goal
 
