@@ -71,7 +71,7 @@ module _ (more : List ℕ) (k : ℕ) where
       write_parts_steady b numbers new NoMore i path = gives_steady more k Next
       write_parts_steady b numbers new (Then v vs) i path =
           next_steady more k (write_like s b numbers new v (path ++ i ∷ [])) (write_like s b numbers new v (path ++ i ∷ [])) (write_parts s b numbers new vs (i + 1) path) (write_parts s b numbers new vs (i + 1) path)
-              (write_steady b numbers new v (path ++ i ∷ [])) (write_parts_steady b numbers new vs (i + 1) path)
+          (write_steady b numbers new v (path ++ i ∷ [])) (write_parts_steady b numbers new vs (i + 1) path)
 
     read_place_steady : (root : Root) (numbers : List Numbered) (of : T) → Steady more k (read_place s root numbers of) (read_place s root numbers of)
     read_place_steady (Local n) numbers of =
@@ -103,8 +103,8 @@ module _ (more : List ℕ) (k : ℕ) where
       call_steady callee taken =
           let after : Finals → Action Finals = λ f. and_with (give_back s taken f.parameters) (λ done. gives f) in
           pay_steady more k (and_with (call_with s calls callee (map argument_of taken)) after) (and_with (call_with s calls' callee (map argument_of taken)) after)
-              (with_steady more k (call_with s calls callee (map argument_of taken)) (call_with s calls' callee (map argument_of taken)) after after (sound callee (map argument_of taken)) (λ f.
-              same_with (give_back s taken f.parameters) (λ done. gives f) (λ done. gives f) (give_back_steady taken f.parameters) (λ done. gives_steady more k f)))
+          (with_steady more k (call_with s calls callee (map argument_of taken)) (call_with s calls' callee (map argument_of taken)) after after (sound callee (map argument_of taken)) (λ f.
+          same_with (give_back s taken f.parameters) (λ done. gives f) (λ done. gives f) (give_back_steady taken f.parameters) (λ done. gives_steady more k f)))
 
       mutual
         expr_steady : (e : Expr C T) → Steady more k (expr_means s calls e) (expr_means s calls' e)
@@ -179,13 +179,13 @@ module _ (more : List ℕ) (k : ℕ) where
             let store : List Numbered → Value → Action Flow = λ ns z. with_way (converted s after z) (λ new. write_place s root ns of new) in
             let put : List Numbered → Value → Value → Action Flow = λ ns x y. with_way (binary_way b x y) (store ns) in
             with_steady more k (numbers_mean s calls numbers) (numbers_mean s calls' numbers)
-                (λ ns. and_with (read_place s root ns of) (λ old. with_way (converted s before old) (λ x. and_with (expr_means s calls e) (put ns x))))
-                (λ ns. and_with (read_place s root ns of) (λ old. with_way (converted s before old) (λ x. and_with (expr_means s calls' e) (put ns x))))
-                (numbers_means_steady numbers) (λ ns.
+            (λ ns. and_with (read_place s root ns of) (λ old. with_way (converted s before old) (λ x. and_with (expr_means s calls e) (put ns x))))
+            (λ ns. and_with (read_place s root ns of) (λ old. with_way (converted s before old) (λ x. and_with (expr_means s calls' e) (put ns x))))
+            (numbers_means_steady numbers) (λ ns.
             with_steady more k (read_place s root ns of) (read_place s root ns of)
-                (λ old. with_way (converted s before old) (λ x. and_with (expr_means s calls e) (put ns x)))
-                (λ old. with_way (converted s before old) (λ x. and_with (expr_means s calls' e) (put ns x)))
-                (read_place_steady root ns of) (λ old.
+            (λ old. with_way (converted s before old) (λ x. and_with (expr_means s calls e) (put ns x)))
+            (λ old. with_way (converted s before old) (λ x. and_with (expr_means s calls' e) (put ns x)))
+            (read_place_steady root ns of) (λ old.
             way_steady more k (converted s before old) (λ x. and_with (expr_means s calls e) (put ns x)) (λ x. and_with (expr_means s calls' e) (put ns x)) (λ x.
             with_steady more k (expr_means s calls e) (expr_means s calls' e) (put ns x) (put ns x) (expr_steady e) (λ y.
             way_steady more k (binary_way b x y) (store ns) (store ns) (λ z.

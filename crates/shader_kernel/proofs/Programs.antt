@@ -83,13 +83,13 @@ module _ (more : List ℕ) (k : ℕ) where
 
     fitting_steady : (d d' : ℕ) (calls calls' : Calls C) → d ≤ d' → CallsSteady calls calls' → (f : Function C T) (arguments : List Argument)
         → Steady more k
-            (either (fit f.parameters arguments) (λ l w. finals f.gives (length f.parameters) (body_means p lengths d calls f (map value_of arguments) l w)) (ends Stuck))
-            (either (fit f.parameters arguments) (λ l w. finals f.gives (length f.parameters) (body_means p lengths d' calls' f (map value_of arguments) l w)) (ends Stuck))
+        (either (fit f.parameters arguments) (λ l w. finals f.gives (length f.parameters) (body_means p lengths d calls f (map value_of arguments) l w)) (ends Stuck))
+        (either (fit f.parameters arguments) (λ l w. finals f.gives (length f.parameters) (body_means p lengths d' calls' f (map value_of arguments) l w)) (ends Stuck))
     fitting_steady d d' calls calls' le s f arguments =
         either_steady more k (fit f.parameters arguments)
-            (λ l w. finals f.gives (length f.parameters) (body_means p lengths d calls f (map value_of arguments) l w))
-            (λ l w. finals f.gives (length f.parameters) (body_means p lengths d' calls' f (map value_of arguments) l w))
-            (ends Stuck) (ends Stuck) (final_steady d d' calls calls' le s f (map value_of arguments)) (ends_steady more k Stuck)
+        (λ l w. finals f.gives (length f.parameters) (body_means p lengths d calls f (map value_of arguments) l w))
+        (λ l w. finals f.gives (length f.parameters) (body_means p lengths d' calls' f (map value_of arguments) l w))
+        (ends Stuck) (ends Stuck) (final_steady d d' calls calls' le s f (map value_of arguments)) (ends_steady more k Stuck)
 
     function_keeps : (d d' : ℕ) (calls calls' : Calls C) → d ≤ d' → CallsSteady calls calls' → (f : Option (Function C T)) (arguments : List Argument) (w : World) → IsPrefix w.events (events_of (function_means p lengths d' calls' f arguments w))
     function_keeps d d' calls calls' le s None arguments w = prefix_same w.events

@@ -102,8 +102,8 @@ abbrev pub turns : ℕ → Action Value → Action Flow → Action Flow → Acti
 turns zero test step body = ends Out
 turns (suc d) test step body =
     and_with test (λ v. with_truth v (λ again. either again
-        (pay (and_turn body (and_next step (turns d test step body))))
-        (gives Next)))
+    (pay (and_turn body (and_next step (turns d test step body))))
+    (gives Next)))
 
 -- what a call does, to locals of its own, and back at the caller's
 abbrev pub back_at : {A : Type 0} → Result A → List Value → Result A

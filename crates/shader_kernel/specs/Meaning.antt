@@ -242,8 +242,8 @@ module _ {C T : Type 0} (p : Program C T) (lengths : ℕ → ℕ → ℕ) where
   function_means d calls None arguments w = Ends w.events Stuck
   function_means d calls (Some f) arguments w =
       either (fit f.parameters arguments)
-          (λ l w1. finals f.gives (length f.parameters) (body_means d calls f (map value_of arguments) l w1))
-          (ends Stuck) [] w
+      (λ l w1. finals f.gives (length f.parameters) (body_means d calls f (map value_of arguments) l w1))
+      (ends Stuck) [] w
 
   -- calls in calls to a depth, which what can still be paid for never reaches
   abbrev pub calls_at : ℕ → Calls C
