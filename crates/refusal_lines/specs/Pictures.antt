@@ -1,0 +1,44 @@
+-- A line of a text with a part of it marked below.
+use Rattle.std.specs.Prelude.{ℕ, Bool, ◌+◌, ◌-◌, ◌≤◌, ◌<◌, ◌≡◌, ◌==◌, ◌&&◌, ◌||◌, not, nat_le, if◌then◌else◌, List, [], ◌∷◌, ◌++◌, length, take, drop, Option, Some, None}
+use Rattle.std.specs.List.{filter_map}
+use Rattle.refusal_lines.specs.declared.rows.Row.{Row}
+use Rattle.refusal_lines.specs.declared.rows.Row.TheVariants as row
+use Rattle.refusal_lines.specs.Positions.{IsLineStart, IsLineEnd}
+
+-- a byte of a character of several bytes, other than the first
+abbrev pub is_behind_first : ℕ → Bool
+is_behind_first b = nat_le 128 b && nat_le b 191
+
+-- a tab, or no control byte
+abbrev pub is_shown : ℕ → Bool
+is_shown b = b == 9 || (nat_le 32 b && not (b == 127))
+
+-- what a row has for a byte
+abbrev pub piece : Row → ℕ → Option ℕ
+piece row.Text b = Some (if is_shown b then b else 32)
+piece row.Blank b = if is_behind_first b then None else Some (if b == 9 then 9 else 32)
+piece row.Mark b = if is_behind_first b then None else Some 94
+
+-- what a row has for bytes
+abbrev pub pieces : Row → List ℕ → List ℕ
+pieces row bytes = filter_map (piece row) bytes
+
+-- the bytes of a text from a place up to before another
+abbrev pub between : List ℕ → ℕ → ℕ → List ℕ
+between text from to = take (to - from) (drop from text)
+
+-- marks below bytes, and one where that gives none
+abbrev pub marks : List ℕ → List ℕ
+marks row = if nat_le 1 (length row) then row else 94 ∷ []
+
+-- what is shown of the line of a place: from a place of the line up to another, at most 60 bytes before it and 160 in all
+abbrev pub IsShown : List ℕ → ℕ → ℕ → ℕ → Type 0
+IsShown text place from to =
+    (start : ℕ) × (end : ℕ) × IsLineStart text place start × IsLineEnd text place end
+    × (from ≡ (if nat_le (start + 60) place then place - 60 else start))
+    × (to ≡ (if nat_le end (from + 160) then end else from + 160))
+
+-- the rows: what is shown of the line, and the marks below the bytes up to the end
+abbrev pub rows : List ℕ → ℕ → ℕ → ℕ → ℕ → List ℕ
+rows text from to place end =
+    pieces row.Text (between text from to) ++ 10 ∷ (pieces row.Blank (between text from place) ++ (marks (pieces row.Mark (between text place (if nat_le end to then end else to))) ++ (10 ∷ [])))
