@@ -31,14 +31,29 @@ between text from to = take (to - from) (drop from text)
 abbrev pub marks : List ℕ → List ℕ
 marks row = if nat_le 1 (length row) then row else 94 ∷ []
 
--- what is shown of the line of a place: from a place of the line up to another, at most 60 bytes before it and 160 in all
+-- where what is shown of a line begins: at most 60 bytes before the place
+abbrev pub shown_from : ℕ → ℕ → ℕ
+shown_from start place = if nat_le (place - start) 60 then start else place - 60
+
+-- and where it ends: at most 160 bytes behind that
+abbrev pub shown_to : ℕ → ℕ → ℕ
+shown_to from end = if nat_le (end - from) 160 then end else from + 160
+
+-- where the marks end: with what is marked, or with what is shown
+abbrev pub marked_to : ℕ → ℕ → ℕ → ℕ
+marked_to place end to = if nat_le end place then place else (if nat_le end to then end else to)
+
+-- a line, and below it blanks below what stands before the marks, and the marks
+abbrev pub rows : List ℕ → List ℕ → List ℕ → List ℕ
+rows line before marked = pieces row.Text line ++ (10 ∷ (pieces row.Blank before ++ (marks (pieces row.Mark marked) ++ (10 ∷ []))))
+
+-- what is shown of the line of a place
 abbrev pub IsShown : List ℕ → ℕ → ℕ → ℕ → Type 0
 IsShown text place from to =
-    (start : ℕ) × (end : ℕ) × IsLineStart text place start × IsLineEnd text place end
-    × (from ≡ (if nat_le (start + 60) place then place - 60 else start))
-    × (to ≡ (if nat_le end (from + 160) then end else from + 160))
+    (start : ℕ) × (end : ℕ) × IsLineStart text place start × IsLineEnd text place end × (from ≡ shown_from start place) × (to ≡ shown_to from end)
 
--- the rows: what is shown of the line, and the marks below the bytes up to the end
-abbrev pub rows : List ℕ → ℕ → ℕ → ℕ → ℕ → List ℕ
-rows text from to place end =
-    pieces row.Text (between text from to) ++ 10 ∷ (pieces row.Blank (between text from place) ++ (marks (pieces row.Mark (between text place (if nat_le end to then end else to))) ++ (10 ∷ [])))
+-- the line of a place, and below it marks from the place up to the end, or up to the end of what is shown
+abbrev pub IsPicture : List ℕ → ℕ → ℕ → List ℕ → Type 0
+IsPicture text place end picture =
+    (from : ℕ) × (to : ℕ) × IsShown text place from to
+    × (picture ≡ rows (between text from to) (between text from place) (between text place (marked_to place end to)))

@@ -1,10 +1,10 @@
 // A line of a text, and the row of marks below it.
 
-ghost use Rattle.std.specs.Prelude.{◌≡◌, ◌≤◌, ◌++◌, ℕ, [], IfOk, length};
+ghost use Rattle.std.specs.Prelude.{◌≡◌, ◌≤◌, ◌++◌, ◌+◌, ◌∷◌, [], IfOk, length};
 ghost use Rattle.std.specs.List.{cons_option};
-ghost use Rattle.refusal_lines.specs.Positions.{IsLineStart, IsLineEnd};
-ghost use Rattle.refusal_lines.specs.declared.rows.Row.TheVariants.{Mark};
+ghost use Rattle.refusal_lines.specs.declared.rows.Row.TheVariants.{Blank, Mark};
 ghost use Rattle.refusal_lines.specs.Pictures as spec;
+ghost use Rattle.refusal_lines.specs.Pictures.{IsPicture};
 
 use crate::positions::{line_end, line_start};
 use std::alloc::{AllocError, Global};
@@ -87,4 +87,86 @@ fn marks(alloc: Global, bytes: &[u8]) -> Result<Vec<u8>, AllocError>
         return Ok(row);
     }
     Vec::from_slice(alloc, b"^")
+}
+
+/// Where what is shown of a line begins.
+fn shown_from(start: usize, place: usize) -> usize
+    requires { start ≤ place }
+    ensures tells { result ≡ spec.shown_from start place }
+    ensures within { result ≤ place }
+    ensures near { place ≤ result + 60 }
+{
+    if place - start <= 60 {
+        start
+    } else {
+        place - 60
+    }
+}
+
+/// Where what is shown of a line ends.
+fn shown_to(from: usize, place: usize, end: usize) -> usize
+    requires within { from ≤ place }
+    requires near { place ≤ from + 60 }
+    requires ends { place ≤ end }
+    ensures tells { result ≡ spec.shown_to from end }
+    ensures behind { place ≤ result }
+    ensures line { result ≤ end }
+{
+    if end - from <= 160 { end } else { from + 160 }
+}
+
+/// Where the marks end.
+fn marked_to(place: usize, end: usize, to: usize) -> usize
+    requires { place ≤ to }
+    ensures tells { result ≡ spec.marked_to place end to }
+    ensures behind { place ≤ result }
+    ensures within { result ≤ to }
+{
+    if end <= place {
+        place
+    } else if end <= to {
+        end
+    } else {
+        to
+    }
+}
+
+/// The row of marks, with the blanks before them and a line feed.
+fn mark_row(alloc: Global, before: &[u8], marked: &[u8]) -> Result<Vec<u8>, AllocError>
+    ensures { IfOk result (λ r. r.items ≡ spec.pieces Blank before.now ++ (spec.marks (spec.pieces Mark marked.now) ++ (10 ∷ []))) }
+{
+    let mut row = pieces(alloc, Row::Blank, before)?;
+    let marks = marks(alloc, marked)?;
+    row.extend_from_slice(marks.as_slice())?;
+    row.push(b'\n')?;
+    Ok(row)
+}
+
+/// A line, and the marks below it.
+fn rows(alloc: Global, line: &[u8], before: &[u8], marked: &[u8]) -> Result<Vec<u8>, AllocError>
+    ensures { IfOk result (λ r. r.items ≡ spec.rows line.now before.now marked.now) }
+{
+    let mut rows = pieces(alloc, Row::Text, line)?;
+    let below = mark_row(alloc, before, marked)?;
+    rows.push(b'\n')?;
+    rows.extend_from_slice(below.as_slice())?;
+    Ok(rows)
+}
+
+/// The line of a place, and below it marks from the place up to before the end, or up to the end of what is shown: of a
+/// long line at most 60 bytes before the place and 160 in all. There is one mark at least, so an empty place behind the
+/// last byte has one too.
+pub fn picture(alloc: Global, text: &[u8], place: usize, end: usize) -> Result<Vec<u8>, AllocError>
+    requires { place ≤ length text.now }
+    ensures { IfOk result (λ r. IsPicture text.now place end r.items) }
+{
+    let from = shown_from(line_start(text, place), place);
+    let to = shown_to(from, place, line_end(text, place));
+    let last = marked_to(place, end, to);
+    rows(
+        alloc,
+        &text[from..to],
+        &text[from..place],
+        &text[place..last],
+    )
 }
