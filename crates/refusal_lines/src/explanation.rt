@@ -52,7 +52,12 @@ fn image(alloc: Global, words: &[String]) -> Result<String, AllocError> {
 /// What is told of a stored module that is refused.
 fn form(alloc: Global, words: &[String]) -> Result<String, AllocError> {
     let sentence = form_sentence(number(words, 2).unwrap_or(0));
-    let (file, code, name, place) = (word(words, 1), word(words, 2), word(words, 3), word(words, 4));
+    let (file, code, name, place) = (
+        word(words, 1),
+        word(words, 2),
+        word(words, 3),
+        word(words, 4),
+    );
     format!(in alloc; "the stored module {file}, at {place}: {code} {name}: {sentence}\n")
 }
 
@@ -60,9 +65,13 @@ fn form(alloc: Global, words: &[String]) -> Result<String, AllocError> {
 fn stopped(alloc: Global, words: &[String], undefined: bool) -> Result<String, AllocError> {
     let (invocation, step) = (word(words, 1), word(words, 2));
     if undefined {
-        return format!(in alloc; "invocation {invocation}, counted from 0, did something undefined at its step {step}: it read or wrote past an end, divided by zero, or shifted by 32 or more\n");
+        return format!(in alloc;
+            "invocation {invocation}, counted from 0, did something undefined at its step {step}: it read or wrote past an end, divided by zero, or shifted by 32 or more\n"
+        );
     }
-    format!(in alloc; "invocation {invocation}, counted from 0, had not ended after its steps: allow more, or look for an endless loop\n")
+    format!(in alloc;
+        "invocation {invocation}, counted from 0, had not ended after its steps: allow more, or look for an endless loop\n"
+    )
 }
 
 /// What is told of a command that was carried out.

@@ -49,12 +49,7 @@ fn last_line(alloc: Global, text: &[u8], span: Span) -> Result<String, AllocErro
 }
 
 /// What is told of a place that the text has.
-fn placed(
-    alloc: Global,
-    words: &[String],
-    text: &[u8],
-    span: Span,
-) -> Result<Vec<u8>, AllocError>
+fn placed(alloc: Global, words: &[String], text: &[u8], span: Span) -> Result<Vec<u8>, AllocError>
     requires { span.start ≤ length text.now }
 {
     let position = locate(text, span.start);
@@ -81,7 +76,9 @@ fn said(alloc: Global, words: &[String]) -> Result<String, AllocError> {
 fn unplaced(alloc: Global, words: &[String], why: &str) -> Result<Vec<u8>, AllocError> {
     let said = said(alloc, words)?;
     let (module, start, end) = (word(words, 1), word(words, 4), word(words, 5));
-    let told = format!(in alloc; "{module}.slang, from byte {start} to before byte {end}: {said}\n  {why}\n")?;
+    let told = format!(in alloc;
+        "{module}.slang, from byte {start} to before byte {end}: {said}\n  {why}\n"
+    )?;
     Vec::from_slice(alloc, told.as_bytes())
 }
 

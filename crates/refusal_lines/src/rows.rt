@@ -46,13 +46,7 @@ fn piece(row: Row, b: u8) -> Option<u8>
                 Some(if b == b'\t' { b'\t' } else { b' ' })
             }
         }
-        Row::Mark => {
-            if is_behind_first(b) {
-                None
-            } else {
-                Some(b'^')
-            }
-        }
+        Row::Mark => { if is_behind_first(b) { None } else { Some(b'^') } }
     }
 }
 
