@@ -1,17 +1,17 @@
 -- Bodies with more to go on.
-use Rattle.std.proofs.Common.{◌≡◌, ℕ, zero, suc, ◌+◌, ◌/◌, ◌≤◌, Bool, true, false, List, [], ◌∷◌, ◌++◌, length, Option, Some, None, refl, sym, ap, ◌∙◌, subst, arith}
-use Rattle.std.specs.Prelude.{slice_get, map, take}
-use Rattle.behavior.specs.Values.{Value, Values, Truth, Word, Whole, NoMore, Then, Way, part, put_part}
-use Rattle.behavior.specs.Meanings.{End, Done, Out, Undefined, Stuck, IsPrefix}
-use Rattle.behavior.specs.Running.{World, Result, Went, Ends, Flow, Next, Broke, Continued, Returned}
-use Rattle.spirv_words.specs.Machine.{Shape, Nothing, Truths, Words, Repeated, Unbounded, Fields, PointerTo}
+use Rattle.std.proofs.Common.{ℕ, ◌+◌, ◌/◌, ◌≤◌, true, false, List, [], ◌∷◌, ◌++◌, Some, None}
+use Rattle.std.specs.Prelude.{slice_get, map}
+use Rattle.behavior.specs.Values.{Value, Values, Truth, Word, Whole, NoMore, Then, part, put_part}
+use Rattle.behavior.specs.Meanings.{Undefined, Stuck}
+use Rattle.behavior.specs.Running.{Flow, Next, Broke, Continued, Returned}
+use Rattle.spirv_words.specs.Machine.{Nothing, Truths, Words, Repeated, Unbounded, Fields, PointerTo}
 use Rattle.spirv_words.specs.Step.{Spot, Byte, Beyond, Nowhere, spot}
 use Rattle.shader_kernel.specs.Kernel.{Root, Local, Buffer, Expr, Known, Pure, Read, Element, Short, Choose, Call, Exprs, NoExpr, More, Numbers, NoNumber, Index, Place, At, Givens, NoGiven, Lent, Stat, Skip, Seq, Put, Change, If, When, Loop, Return, Give, Break, Continue, Run, Parameter, Function}
 use Rattle.shader_kernel.specs.Kernel as kernel
-use Rattle.shader_kernel.specs.Operators.{binary_way, node_way, at_path, zeros}
-use Rattle.shader_kernel.specs.Actions.{Action, gives, ends, and_with, either, with_way, with_word, with_truth, with_some, with_local, set_local, Numbered, with_numbers, ask, tell, pay, and_next, turns, back_at}
+use Rattle.shader_kernel.specs.Operators.{binary_way, node_way, at_path}
+use Rattle.shader_kernel.specs.Actions.{Action, gives, and_with, either, with_way, with_word, with_truth, with_some, set_local, Numbered, with_numbers, ask, tell}
 use Rattle.shader_kernel.specs.Meaning.{Bound, Fixed, Argument, Finals, Taken, Kept, Borrowed, argument_of, Calls, at_spot, at_scalar, read_scalar, write_scalar, read_like, read_parts, write_like, write_parts, read_place, write_place, give_back, constant_value, converted, call_with, call_means, expr_means, exprs_mean, numbers_mean, givens_mean, stat_means}
-use Rattle.shader_kernel.proofs.Steady.{prefix_same, events_of, longer, Extended, Steady, gives_steady, ends_steady, with_steady, next_steady, either_steady, way_steady, word_steady, truth_steady, some_steady, local_steady, set_steady, numbers_steady, ask_steady, tell_steady, pay_steady, turns_steady}
+use Rattle.shader_kernel.proofs.Steady.{Steady, gives_steady, ends_steady, with_steady, next_steady, either_steady, way_steady, word_steady, truth_steady, some_steady, local_steady, set_steady, numbers_steady, ask_steady, tell_steady, pay_steady, turns_steady}
 
 module _ (more : List ℕ) (k : ℕ) where
   -- the same with another result put in
@@ -71,7 +71,7 @@ module _ (more : List ℕ) (k : ℕ) where
       write_parts_steady b numbers new NoMore i path = gives_steady more k Next
       write_parts_steady b numbers new (Then v vs) i path =
           next_steady more k (write_like s b numbers new v (path ++ i ∷ [])) (write_like s b numbers new v (path ++ i ∷ [])) (write_parts s b numbers new vs (i + 1) path) (write_parts s b numbers new vs (i + 1) path)
-              (write_steady b numbers new v (path ++ i ∷ [])) (write_parts_steady b numbers new vs (i + 1) path)
+          (write_steady b numbers new v (path ++ i ∷ [])) (write_parts_steady b numbers new vs (i + 1) path)
 
     read_place_steady : (root : Root) (numbers : List Numbered) (of : T) → Steady more k (read_place s root numbers of) (read_place s root numbers of)
     read_place_steady (Local n) numbers of =
@@ -103,8 +103,8 @@ module _ (more : List ℕ) (k : ℕ) where
       call_steady callee taken =
           let after : Finals → Action Finals = λ f. and_with (give_back s taken f.parameters) (λ done. gives f) in
           pay_steady more k (and_with (call_with s calls callee (map argument_of taken)) after) (and_with (call_with s calls' callee (map argument_of taken)) after)
-              (with_steady more k (call_with s calls callee (map argument_of taken)) (call_with s calls' callee (map argument_of taken)) after after (sound callee (map argument_of taken)) (λ f.
-              same_with (give_back s taken f.parameters) (λ done. gives f) (λ done. gives f) (give_back_steady taken f.parameters) (λ done. gives_steady more k f)))
+          (with_steady more k (call_with s calls callee (map argument_of taken)) (call_with s calls' callee (map argument_of taken)) after after (sound callee (map argument_of taken)) (λ f.
+          same_with (give_back s taken f.parameters) (λ done. gives f) (λ done. gives f) (give_back_steady taken f.parameters) (λ done. gives_steady more k f)))
 
       mutual
         expr_steady : (e : Expr C T) → Steady more k (expr_means s calls e) (expr_means s calls' e)
@@ -179,13 +179,13 @@ module _ (more : List ℕ) (k : ℕ) where
             let store : List Numbered → Value → Action Flow = λ ns z. with_way (converted s after z) (λ new. write_place s root ns of new) in
             let put : List Numbered → Value → Value → Action Flow = λ ns x y. with_way (binary_way b x y) (store ns) in
             with_steady more k (numbers_mean s calls numbers) (numbers_mean s calls' numbers)
-                (λ ns. and_with (read_place s root ns of) (λ old. with_way (converted s before old) (λ x. and_with (expr_means s calls e) (put ns x))))
-                (λ ns. and_with (read_place s root ns of) (λ old. with_way (converted s before old) (λ x. and_with (expr_means s calls' e) (put ns x))))
-                (numbers_means_steady numbers) (λ ns.
+            (λ ns. and_with (read_place s root ns of) (λ old. with_way (converted s before old) (λ x. and_with (expr_means s calls e) (put ns x))))
+            (λ ns. and_with (read_place s root ns of) (λ old. with_way (converted s before old) (λ x. and_with (expr_means s calls' e) (put ns x))))
+            (numbers_means_steady numbers) (λ ns.
             with_steady more k (read_place s root ns of) (read_place s root ns of)
-                (λ old. with_way (converted s before old) (λ x. and_with (expr_means s calls e) (put ns x)))
-                (λ old. with_way (converted s before old) (λ x. and_with (expr_means s calls' e) (put ns x)))
-                (read_place_steady root ns of) (λ old.
+            (λ old. with_way (converted s before old) (λ x. and_with (expr_means s calls e) (put ns x)))
+            (λ old. with_way (converted s before old) (λ x. and_with (expr_means s calls' e) (put ns x)))
+            (read_place_steady root ns of) (λ old.
             way_steady more k (converted s before old) (λ x. and_with (expr_means s calls e) (put ns x)) (λ x. and_with (expr_means s calls' e) (put ns x)) (λ x.
             with_steady more k (expr_means s calls e) (expr_means s calls' e) (put ns x) (put ns x) (expr_steady e) (λ y.
             way_steady more k (binary_way b x y) (store ns) (store ns) (λ z.

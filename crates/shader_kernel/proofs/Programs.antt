@@ -1,14 +1,13 @@
 -- Programs with more to go on.
-use Rattle.std.proofs.Common.{◌≡◌, ◌≢◌, ℕ, zero, suc, ◌+◌, ◌≤◌, ◌⊎◌, inl, inr, ⊎_elim, Bool, true, false, List, [], ◌∷◌, ◌++◌, length, Option, Some, None, refl, sym, ap, ◌∙◌, subst, arith}
-use Rattle.std.specs.Prelude.{map, take}
-use Rattle.std.proofs.lemmas.List.{append-nil}
+use Rattle.std.proofs.Common.{◌≡◌, ◌≢◌, ℕ, zero, suc, ◌+◌, ◌≤◌, inl, inr, ⊎_elim, Bool, true, false, List, [], ◌++◌, length, Option, Some, None, refl, sym, ap, ◌∙◌, subst, arith}
+use Rattle.std.specs.Prelude.{map}
 use Rattle.behavior.specs.Values.{Value}
-use Rattle.behavior.specs.Meanings.{Event, End, Done, Out, Undefined, Stuck, Outcome, Ids, IsPrefix, ReachedBy}
+use Rattle.behavior.specs.Meanings.{Event, Done, Out, Undefined, Stuck, Outcome, IsPrefix, ReachedBy}
 use Rattle.behavior.specs.Running.{World, Result, Went, Ends, Flow, Next, Broke, Continued, Returned, outcome}
-use Rattle.shader_kernel.specs.Kernel.{Parameter, Function}
+use Rattle.shader_kernel.specs.Kernel.{Function}
 use Rattle.shader_kernel.specs.Operators.{zeros}
-use Rattle.shader_kernel.specs.Actions.{Action, ends, either, back_at}
-use Rattle.shader_kernel.specs.Meaning.{Fixed, Argument, Finals, Calls, call_with, stat_means, finals, fit, value_of, Program, fixed, body_means, function_means, calls_at, entry_means, input_values, means}
+use Rattle.shader_kernel.specs.Actions.{ends, either, back_at}
+use Rattle.shader_kernel.specs.Meaning.{Argument, Calls, call_with, finals, fit, value_of, Program, fixed, body_means, function_means, calls_at, entry_means, input_values, means}
 use Rattle.shader_kernel.specs.Extending.{IsExtended, IsDetermined}
 use Rattle.shader_kernel.proofs.Steady.{prefix_same, events_of, longer, Extended, Steady, ends_steady, either_steady}
 use Rattle.shader_kernel.proofs.Bodies.{stat_steady}
@@ -83,13 +82,13 @@ module _ (more : List ℕ) (k : ℕ) where
 
     fitting_steady : (d d' : ℕ) (calls calls' : Calls C) → d ≤ d' → CallsSteady calls calls' → (f : Function C T) (arguments : List Argument)
         → Steady more k
-            (either (fit f.parameters arguments) (λ l w. finals f.gives (length f.parameters) (body_means p lengths d calls f (map value_of arguments) l w)) (ends Stuck))
-            (either (fit f.parameters arguments) (λ l w. finals f.gives (length f.parameters) (body_means p lengths d' calls' f (map value_of arguments) l w)) (ends Stuck))
+        (either (fit f.parameters arguments) (λ l w. finals f.gives (length f.parameters) (body_means p lengths d calls f (map value_of arguments) l w)) (ends Stuck))
+        (either (fit f.parameters arguments) (λ l w. finals f.gives (length f.parameters) (body_means p lengths d' calls' f (map value_of arguments) l w)) (ends Stuck))
     fitting_steady d d' calls calls' le s f arguments =
         either_steady more k (fit f.parameters arguments)
-            (λ l w. finals f.gives (length f.parameters) (body_means p lengths d calls f (map value_of arguments) l w))
-            (λ l w. finals f.gives (length f.parameters) (body_means p lengths d' calls' f (map value_of arguments) l w))
-            (ends Stuck) (ends Stuck) (final_steady d d' calls calls' le s f (map value_of arguments)) (ends_steady more k Stuck)
+        (λ l w. finals f.gives (length f.parameters) (body_means p lengths d calls f (map value_of arguments) l w))
+        (λ l w. finals f.gives (length f.parameters) (body_means p lengths d' calls' f (map value_of arguments) l w))
+        (ends Stuck) (ends Stuck) (final_steady d d' calls calls' le s f (map value_of arguments)) (ends_steady more k Stuck)
 
     function_keeps : (d d' : ℕ) (calls calls' : Calls C) → d ≤ d' → CallsSteady calls calls' → (f : Option (Function C T)) (arguments : List Argument) (w : World) → IsPrefix w.events (events_of (function_means p lengths d' calls' f arguments w))
     function_keeps d d' calls calls' le s None arguments w = prefix_same w.events

@@ -1,12 +1,12 @@
 -- Actions with more to go on: further answers, and more turns and calls that can be paid for.
 use Rattle.std.proofs.Common.{◌≡◌, ℕ, zero, suc, ◌+◌, ◌≤◌, Bool, true, false, ◌&&◌, List, [], ◌∷◌, ◌++◌, Option, Some, None, refl, sym, ap, ◌∙◌, subst, arith, append_assoc}
-use Rattle.std.specs.Prelude.{slice_get, slice_set}
+use Rattle.std.specs.Prelude.{slice_get}
 use Rattle.std.proofs.lemmas.List.{append-nil}
 use Rattle.behavior.specs.Values.{Value, Truth, Word, Whole, Way, Found, Outside, Wrong}
 use Rattle.behavior.specs.Operations.{is_negative}
-use Rattle.behavior.specs.Meanings.{Event, Read, Write, End, Done, Out, Undefined, Stuck, Outcome, IsPrefix}
-use Rattle.behavior.specs.Running.{World, Result, Went, Ends, then, Flow, Next, Broke, Continued, Returned, then_next, on_word, on_local, on_way}
-use Rattle.shader_kernel.specs.Actions.{Action, gives, ends, and_with, either, with_way, with_word, with_truth, with_some, with_local, set_local, Numbered, with_numbers, answered, ask, tell, paid, pay, and_next, then_turn, and_turn, turns, back_at}
+use Rattle.behavior.specs.Meanings.{Event, Read, Write, End, Done, Out, Undefined, Stuck, IsPrefix}
+use Rattle.behavior.specs.Running.{World, Result, Went, Ends, then, Flow, Next, Broke, Continued, Returned, then_next, on_local}
+use Rattle.shader_kernel.specs.Actions.{Action, gives, ends, and_with, either, with_way, with_word, with_truth, with_some, with_local, set_local, Numbered, with_numbers, answered, ask, tell, paid, pay, and_next, then_turn, and_turn, turns}
 
 pub prefix_same : (a : List Event) → IsPrefix a a
 prefix_same a = ([], append-nil a)
@@ -163,10 +163,10 @@ module _ (more : List ℕ) (k : ℕ) where
   numbers_steady [] go go' s = s []
   numbers_steady (i ∷ is) go go' s =
       word_steady i.value
-          (λ n. either (i.signed && is_negative n) (ends Undefined) (with_numbers is (λ ns. go (n ∷ ns))))
-          (λ n. either (i.signed && is_negative n) (ends Undefined) (with_numbers is (λ ns. go' (n ∷ ns))))
-          (λ n. either_steady (i.signed && is_negative n) (ends Undefined) (ends Undefined) (with_numbers is (λ ns. go (n ∷ ns))) (with_numbers is (λ ns. go' (n ∷ ns)))
-              (ends_steady Undefined) (numbers_steady is (λ ns. go (n ∷ ns)) (λ ns. go' (n ∷ ns)) (λ ns. s (n ∷ ns))))
+      (λ n. either (i.signed && is_negative n) (ends Undefined) (with_numbers is (λ ns. go (n ∷ ns))))
+      (λ n. either (i.signed && is_negative n) (ends Undefined) (with_numbers is (λ ns. go' (n ∷ ns))))
+      (λ n. either_steady (i.signed && is_negative n) (ends Undefined) (ends Undefined) (with_numbers is (λ ns. go (n ∷ ns))) (with_numbers is (λ ns. go' (n ∷ ns)))
+      (ends_steady Undefined) (numbers_steady is (λ ns. go (n ∷ ns)) (λ ns. go' (n ∷ ns)) (λ ns. s (n ∷ ns))))
 
   -- ---- events and payments
 
@@ -199,7 +199,7 @@ module _ (more : List ℕ) (k : ℕ) where
   paid_extends (suc c) m m' l w s =
       let same : suc (c + k) ≡ suc c + k = omega arith in
       subst (λ n. Extended (m l (record { answers = w.answers; events = w.events; clock = c })) (paid n m' l (longer w))) same
-          (s.extends l (record { answers = w.answers; events = w.events; clock = c }))
+      (s.extends l (record { answers = w.answers; events = w.events; clock = c }))
 
   pub pay_steady : {A : Type 0} (m m' : Action A) → Steady m m' → Steady (pay m) (pay m')
   pay_steady m m' s = record {
@@ -218,15 +218,15 @@ module _ (more : List ℕ) (k : ℕ) where
   one_turn : (test test' : Action Value) (step step' body body' rest rest' : Action Flow)
       → Steady test test' → Steady step step' → Steady body body' → Steady rest rest'
       → Steady (and_with test (λ v. with_truth v (λ again. either again (pay (and_turn body (and_next step rest))) (gives Next))))
-          (and_with test' (λ v. with_truth v (λ again. either again (pay (and_turn body' (and_next step' rest'))) (gives Next))))
+      (and_with test' (λ v. with_truth v (λ again. either again (pay (and_turn body' (and_next step' rest'))) (gives Next))))
   one_turn test test' step step' body body' rest rest' t s b r =
       let turn = and_turn body (and_next step rest) in
       let turn' = and_turn body' (and_next step' rest') in
       with_steady test test' (λ v. with_truth v (λ again. either again (pay turn) (gives Next))) (λ v. with_truth v (λ again. either again (pay turn') (gives Next))) t (λ v.
       truth_steady v (λ again. either again (pay turn) (gives Next)) (λ again. either again (pay turn') (gives Next)) (λ again.
       either_steady again (pay turn) (pay turn') (gives Next) (gives Next)
-          (pay_steady turn turn' (turn_steady body body' (and_next step rest) (and_next step' rest') b (next_steady step step' rest rest' s r)))
-          (gives_steady Next)))
+      (pay_steady turn turn' (turn_steady body body' (and_next step rest) (and_next step' rest') b (next_steady step step' rest rest' s r)))
+      (gives_steady Next)))
 
   module _ (test test' : Action Value) (step step' body body' : Action Flow) (t : Steady test test') (s : Steady step step') (b : Steady body body') where
     turns_keep : (d : ℕ) (l : List Value) (w : World) → IsPrefix w.events (events_of (turns d test' step' body' l w))
@@ -235,10 +235,10 @@ module _ (more : List ℕ) (k : ℕ) where
         let rest = turns d test' step' body' in
         let turn = and_turn body' (and_next step' rest) in
         then_keeps (test' l w) (λ v. with_truth v (λ again. either again (pay turn) (gives Next))) w.events
-            (λ v. loop_keeps v (pay turn) (λ l1 w1. paid_keeps w1.clock turn l1 w1 (λ l2 w2.
-                turn_keeps (body' l2 w2) (and_next step' rest) w2.events (λ l3 w3.
-                next_keeps (step' l3 w3) rest w3.events (turns_keep d) (s.keeps l3 w3)) (b.keeps l2 w2))))
-            (t.keeps l w)
+        (λ v. loop_keeps v (pay turn) (λ l1 w1. paid_keeps w1.clock turn l1 w1 (λ l2 w2.
+        turn_keeps (body' l2 w2) (and_next step' rest) w2.events (λ l3 w3.
+        next_keeps (step' l3 w3) rest w3.events (turns_keep d) (s.keeps l3 w3)) (b.keeps l2 w2))))
+        (t.keeps l w)
 
     pub turns_steady : (d d' : ℕ) → d ≤ d' → Steady (turns d test step body) (turns d' test' step' body')
     turns_steady zero d' le = record { keeps = turns_keep d'; extends = λ l w. turns_keep d' l (longer w) }

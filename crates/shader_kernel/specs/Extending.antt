@@ -6,10 +6,10 @@ use Rattle.behavior.specs.Meanings.{Out, Ids, Meaning, ReachedBy}
 abbrev pub IsExtended : Meaning → Type 0
 IsExtended m =
     (ids : Ids) (lengths : ℕ → ℕ → ℕ) (answers more : List ℕ) (n k : ℕ) →
-        ReachedBy (m ids lengths answers n) (m ids lengths (answers ++ more) (n + k))
+    ReachedBy (m ids lengths answers n) (m ids lengths (answers ++ more) (n + k))
 
 -- runs that are not cut off by their bounds are one run
 abbrev pub IsDetermined : Meaning → Type 0
 IsDetermined m =
     (ids : Ids) (lengths : ℕ → ℕ → ℕ) (answers : List ℕ) (n k : ℕ) →
-        (m ids lengths answers n).ending ≢ Out → (m ids lengths answers k).ending ≢ Out → m ids lengths answers n ≡ m ids lengths answers k
+    (m ids lengths answers n).ending ≢ Out → (m ids lengths answers k).ending ≢ Out → m ids lengths answers n ≡ m ids lengths answers k

@@ -1,10 +1,10 @@
 -- What programs in the kernel mean.
-use Rattle.std.specs.Prelude.{ℕ, zero, suc, ◌+◌, ◌/◌, Bool, true, false, not, ◌&&◌, cond, nat_eq, List, [], ◌∷◌, ◌++◌, length, map, take, Option, Some, None, slice_get}
+use Rattle.std.specs.Prelude.{ℕ, zero, suc, ◌+◌, ◌/◌, Bool, true, false, not, ◌&&◌, List, [], ◌∷◌, ◌++◌, length, map, take, Option, Some, None, slice_get}
 use Rattle.slang_names.specs.declared.places.Mode.{Mode}
 use Rattle.slang_names.specs.declared.places.Mode.TheVariants as mode
-use Rattle.behavior.specs.Values.{Value, Values, Truth, Word, Whole, NoMore, Then, Way, Found, part, put_part, triple}
-use Rattle.behavior.specs.Meanings.{Out, Undefined, Stuck, Outcome, Ids, Meaning}
-use Rattle.behavior.specs.Running.{World, Result, Went, Ends, then, Flow, Next, Broke, Continued, Returned, outcome}
+use Rattle.behavior.specs.Values.{Value, Values, Truth, Word, Whole, NoMore, Then, Way, Found, part, put_part}
+use Rattle.behavior.specs.Meanings.{Out, Undefined, Stuck, Ids, Meaning}
+use Rattle.behavior.specs.Running.{World, Result, Went, Ends, Flow, Next, Broke, Continued, Returned, outcome}
 use Rattle.spirv_words.specs.Machine.{Shape, Words}
 use Rattle.spirv_words.specs.Step.{Spot, Byte, Beyond, Nowhere, spot}
 use Rattle.shader_kernel.specs.Kernel.{Constant, Number, Logical, Null, Binary, Node, One, Convert, Root, Local, Buffer, Expr, Known, Pure, Read, Element, Short, Choose, Call, Exprs, NoExpr, More, Numbers, NoNumber, Index, Place, At, Givens, NoGiven, Lent, Stat, Skip, Seq, Put, Change, If, When, Loop, Return, Give, Break, Continue, Run, Parameter, Function}
@@ -242,8 +242,8 @@ module _ {C T : Type 0} (p : Program C T) (lengths : ℕ → ℕ → ℕ) where
   function_means d calls None arguments w = Ends w.events Stuck
   function_means d calls (Some f) arguments w =
       either (fit f.parameters arguments)
-          (λ l w1. finals f.gives (length f.parameters) (body_means d calls f (map value_of arguments) l w1))
-          (ends Stuck) [] w
+      (λ l w1. finals f.gives (length f.parameters) (body_means d calls f (map value_of arguments) l w1))
+      (ends Stuck) [] w
 
   -- calls in calls to a depth, which what can still be paid for never reaches
   abbrev pub calls_at : ℕ → Calls C
