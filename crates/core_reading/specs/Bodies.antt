@@ -1,10 +1,9 @@
 -- What a body of a core says, in the kernel. The core leaves out the type of a node where it follows from its parts: here each
 -- operator gets the sign that it works on, each number of a place its sign, and each node its type.
-use Rattle.std.specs.Prelude.{ℕ, zero, suc, ◌+◌, Bool, true, false, not, ◌&&◌, cond, List, [], ◌∷◌, ◌++◌, length, map, drop, replicate, Option, Some, None, slice_get}
+use Rattle.std.specs.Prelude.{ℕ, zero, suc, ◌+◌, Bool, true, false, not, cond, List, [], ◌∷◌, length, map, drop, replicate, Option, Some, None, slice_get}
 use Rattle.slang_names.specs.declared.names.Ref.{Ref}
 use Rattle.slang_names.specs.declared.places.Mode.{Mode}
 use Rattle.slang_names.specs.declared.places.Mode.TheVariants as mode
-use Rattle.slang_core.specs.declared.types.Arg.{Arg}
 use Rattle.slang_core.specs.declared.bodies.Call.{Call, fold-Call}
 use Rattle.slang_core.specs.declared.bodies.Expr.{Expr, fold-Expr}
 use Rattle.slang_core.specs.declared.bodies.PlaceTerm.{PlaceTerm, fold-PlaceTerm}
@@ -19,10 +18,10 @@ use Rattle.slang_core.specs.declared.bodies.UnaryOp.{UnaryOp}
 use Rattle.slang_core.specs.declared.bodies.UnaryOp.TheVariants as un
 use Rattle.spirv_words.specs.Machine.{if_some}
 use Rattle.shader_kernel.specs.Kernel as k
-use Rattle.core_reading.specs.Ground.{Ground, Void, Logical, Scalar, Vector, ArrayOf, StructOf, Structured, ConstantData, Block, NoType, Arguments, is_signed, is_logical, converted_type, size_of, element_type, is_resource}
+use Rattle.core_reading.specs.Ground.{Ground, Logical, Scalar, Vector, ArrayOf, StructOf, Structured, ConstantData, Block, NoType, Arguments, is_signed, is_logical, converted_type, size_of, element_type, is_resource}
 use Rattle.core_reading.specs.Programs.{CoreProgram, Defined, function_of, global_of, modes_of}
 use Rattle.core_reading.specs.Types.{ground_type, ground_arguments, value_in, fields_of, field_type, or_no_type}
-use Rattle.core_reading.specs.Frames.{Target, Callee, BufferName, OfGlobal, PlainFields, OfField, Frame, Typed, ReadPlace, InPlace, InBlock, ReadGiven, GivenValue, GivenPlace, ReadCall, ReadStat}
+use Rattle.core_reading.specs.Frames.{Target, Callee, OfGlobal, PlainFields, OfField, Frame, Typed, ReadPlace, InPlace, InBlock, ReadGiven, GivenValue, GivenPlace, ReadCall, ReadStat}
 
 -- ---- operators
 

@@ -1,5 +1,5 @@
 -- What a body of a core is read with, and what its parts are read to.
-use Rattle.std.specs.Prelude.{ℕ, zero, suc, ◌+◌, Bool, true, false, cond, List, [], ◌∷◌, Option, Some, None, slice_get}
+use Rattle.std.specs.Prelude.{ℕ, Bool, List, Option}
 use Rattle.slang_names.specs.declared.names.Ref.{Ref}
 use Rattle.shader_kernel.specs.Kernel as k
 use Rattle.core_reading.specs.Ground.{Ground, Arguments}

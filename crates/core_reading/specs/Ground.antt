@@ -1,5 +1,5 @@
 -- Ground types: types in which nothing is left open.
-use Rattle.std.specs.Prelude.{ℕ, zero, suc, ◌+◌, Bool, true, false, not, List, [], ◌∷◌}
+use Rattle.std.specs.Prelude.{ℕ, zero, suc, Bool, true, false, not}
 use Rattle.slang_names.specs.declared.names.Ref.{Ref}
 
 mutual

@@ -1,5 +1,5 @@
 -- A program: the cores of its modules, and the function that a device starts. What a name in it stands for.
-use Rattle.std.specs.Prelude.{ℕ, zero, suc, ◌+◌, Bool, true, false, not, ◌&&◌, cond, bytes_eq, List, [], ◌∷◌, length, map, Option, Some, None, is_some}
+use Rattle.std.specs.Prelude.{ℕ, ◌+◌, Bool, not, ◌&&◌, cond, bytes_eq, List, [], ◌∷◌, length, map, Option, Some, None, is_some}
 use Rattle.slang_names.specs.declared.names.Ref.{Ref}
 use Rattle.slang_names.specs.declared.places.Mode.{Mode}
 use Rattle.slang_names.specs.declared.places.Mode.TheVariants as mode

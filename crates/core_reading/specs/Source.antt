@@ -1,7 +1,6 @@
 -- What a program says: its functions in the kernel, and what it does.
-use Rattle.std.specs.Prelude.{ℕ, Bool, true, false, not, cond, List, [], ◌∷◌, ◌++◌, length, map, Option, Some, None}
+use Rattle.std.specs.Prelude.{ℕ, not, cond, List, [], ◌∷◌, ◌++◌, length, map, Option, Some, None}
 use Rattle.slang_names.specs.declared.names.Ref.{Ref}
-use Rattle.slang_names.specs.declared.places.Mode.{Mode}
 use Rattle.slang_core.specs.declared.declarations.FunctionDecl.{FunctionDecl}
 use Rattle.slang_core.specs.declared.declarations.Par.{Par}
 use Rattle.slang_core.specs.declared.declarations.BuiltIn.{BuiltIn}
@@ -15,7 +14,7 @@ use Rattle.shader_kernel.specs.Meaning.{Bound, Program, means}
 use Rattle.core_reading.specs.Ground.{Ground, StructOf, NoType, Arguments, NoArgument, first_of, is_void}
 use Rattle.core_reading.specs.Programs.{CoreProgram, Defined, function_of, struct_of, has_receiver, receiver_mode}
 use Rattle.core_reading.specs.Types.{ground_type, zero_of}
-use Rattle.core_reading.specs.Frames.{Target, Callee, BufferName, Frame}
+use Rattle.core_reading.specs.Frames.{Callee, BufferName, Frame}
 use Rattle.core_reading.specs.Bodies.{read_stats}
 
 -- where the data of a program's globals lie: its buffers, and the number of each among them

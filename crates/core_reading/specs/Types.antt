@@ -1,5 +1,5 @@
 -- Types of a core, where its parameters stand for these arguments; the fields of structs, and the zeros of types.
-use Rattle.std.specs.Prelude.{ℕ, zero, suc, ◌+◌, Bool, true, false, List, [], ◌∷◌, map, Option, Some, None, slice_get}
+use Rattle.std.specs.Prelude.{ℕ, zero, suc, Bool, true, false, List, [], ◌∷◌, map, Option, Some, None, slice_get}
 use Rattle.slang_names.specs.declared.names.Ref.{Ref}
 use Rattle.slang_names.specs.declared.places.Value.{Value as Term}
 use Rattle.slang_names.specs.declared.places.Value.TheVariants as value
@@ -9,7 +9,6 @@ use Rattle.slang_core.specs.declared.types.TypeTerm.{TypeTerm, fold-TypeTerm}
 use Rattle.slang_core.specs.declared.types.Arg.{Arg, fold-Arg}
 use Rattle.slang_core.specs.declared.types.Arg.TheOpen.{TypeTerm-F, Arg-F}
 use Rattle.slang_core.specs.declared.types.Arg.TheOpen as term
-use Rattle.slang_core.specs.declared.declarations.Field.{Field}
 use Rattle.behavior.specs.Values.{Value, Values, Truth, Word, Whole, NoMore, Then}
 use Rattle.spirv_words.specs.Machine.{repeated, if_some}
 use Rattle.core_reading.specs.Ground.{Ground, Void, Logical, Scalar, Vector, ArrayOf, StructOf, Structured, ConstantData, Block, NoType, Arguments, NoArgument, TypeArgument, NumberArgument, type_at, number_at}
