@@ -57,7 +57,7 @@ module _ (more : List ℕ) (k : ℕ) where
     pub extends : (callee : C) (arguments : List Argument) (w : World) → Extended more k (calls callee arguments w) (calls' callee arguments (longer more k w))
 
   module _ {C T : Type 0} (p : Program C T) (lengths : ℕ → ℕ → ℕ) where
-    sound_of : (calls calls' : Calls C) → CallsSteady calls calls' → (callee : C) (arguments : List Argument) → Steady more k (call_with (fixed p lengths) calls callee arguments) (call_with (fixed p lengths) calls' callee arguments)
+    sound_of : (calls calls' : Calls C) → CallsSteady calls calls' → (callee : C) (arguments : List Argument) → Steady more k (call_with (fixed p lengths) p.zero_of calls callee arguments) (call_with (fixed p lengths) p.zero_of calls' callee arguments)
     sound_of calls calls' s callee arguments = record {
       keeps = λ l w. back_keeps (calls' callee arguments w) l w.events (s.keeps callee arguments w);
       extends = λ l w. back_extends (calls callee arguments w) (calls' callee arguments (longer more k w)) l (s.extends callee arguments w);
@@ -65,7 +65,7 @@ module _ (more : List ℕ) (k : ℕ) where
 
     body_steady : (d d' : ℕ) (calls calls' : Calls C) → d ≤ d' → CallsSteady calls calls' → (f : Function C T) (given : List Value) → Steady more k (body_means p lengths d calls f given) (body_means p lengths d' calls' f given)
     body_steady d d' calls calls' le s f given =
-        let inner = stat_steady more k (fixed p lengths) calls calls' (sound_of calls calls' s) d d' le f.body in
+        let inner = stat_steady more k (fixed p lengths) p.zero_of calls calls' (sound_of calls calls' s) d d' le f.body in
         record {
           keeps = λ l w. inner.keeps (given ++ zeros p.zero_of f.locals) w;
           extends = λ l w. inner.extends (given ++ zeros p.zero_of f.locals) w;
