@@ -202,31 +202,49 @@ module _ (f : Frame) where
   -- ---- expressions and places
 
   abbrev pub expr_layer : Expr-F ReadCall Typed ReadGiven ReadPlace → Typed
+  -- numbers as they are spelled, an int in two's complement; bools
   expr_layer (core.Int n) = typed (Scalar true) (k.Known (k.Number true n))
   expr_layer (core.Uint n) = typed (Scalar false) (k.Known (k.Number false n))
   expr_layer core.False = typed Logical (k.Known (k.Logical false))
   expr_layer core.True = typed Logical (k.Known (k.Logical true))
+  -- what a place holds: its own scalars are read, no others
   expr_layer (core.Read p) = typed (type_of_place p) (k.Read (place_of p))
+  -- an operator on one value has the type of that value
   expr_layer (core.Unary o x) = pure (k.One (unary_of o)) x.of (one x)
+  -- two values, the left one first; the sign is that of the left one's type
   expr_layer (core.Binary o x y) = pure (k.Two (binary_of o x.of)) (binary_type o x.of) (k.More x.expr (one y))
+  -- the right one is evaluated only where the left one does not decide
   expr_layer (core.And x y) = typed Logical (k.Short true x.expr y.expr)
   expr_layer (core.Or x y) = typed Logical (k.Short false x.expr y.expr)
+  -- of the last two the one that is chosen is evaluated; both have one type
   expr_layer (core.Choose x y z) = typed y.of (k.Choose y.of x.expr y.expr z.expr)
+  -- the same bits, as uint or as int
   expr_layer (core.Convert x) = pure (k.One k.Convert) (converted_type x.of) (one x)
+  -- the components of scalars and vectors in a row
   expr_layer (core.Vector t xs) = pure (k.Spread (map (λ x. size_of x.of) xs)) (ground_type f.arguments t) (all_of xs)
+  -- one scalar as each component
   expr_layer (core.Repeat n x) = pure (k.Repeat n) (Vector (is_signed x.of) n) (one x)
+  -- components of a vector that is no place, or of one that is read whole
   expr_layer (core.Swizzle ns x) = swizzled ns x
+  -- a field of a struct that is no place
   expr_layer (core.Field n x) = pure (k.Part n) (field_type f.program x.of n) (one x)
+  -- the value, then the index, then the element of the value
   expr_layer (core.Element x y) = typed (element_type x.of) (k.Element (element_type x.of) x.expr (is_signed y.of) y.expr)
+  -- the result of a call
   expr_layer (core.Call c) = typed c.of (k.Call c.callee c.of c.given)
+  -- the parts that are given, and zeros
   expr_layer (core.List t xs) = listed f.program (ground_type f.arguments t) xs
   expr_layer (core.Zero t) = typed (ground_type f.arguments t) (k.Known (k.Null (ground_type f.arguments t)))
+  -- a number that a parameter of the declaration stands for, as an int
   expr_layer (core.Fixed v) = typed (Scalar true) (k.Known (k.Number true (value_in f.arguments v)))
 
   abbrev pub place_layer : PlaceTerm-F ReadCall Typed ReadGiven ReadPlace → ReadPlace
+  -- a parameter or local, numbered without the receiver; the receiver itself
   place_layer (core.Local n) = local_place (number_of_local n)
   place_layer core.This = local_place 0
+  -- a buffer or a block of the program
   place_layer (core.Global r) = global_place r (type_of_global r)
+  -- a part of a place, with the numbers that lead to the place before its own
   place_layer (core.FieldOf n p) = field_place n p
   place_layer (core.Component n p) = component_place n p
   place_layer (core.ElementOf p x) = element_place p x
@@ -262,17 +280,26 @@ module _ (f : Frame) where
   if_stat test a b = cond b.is_empty (k.When test a.stat) (k.If test a.stat b.stat)
 
   abbrev pub stat_layer : Stat-F ReadStat → ReadStat
+  -- statements in their order
   stat_layer (stat.Block ss) = record { is_empty = no_statement ss; stat = in_order ss }
+  -- the first value of a local, each time that the statement is come to
   stat_layer (stat.Local n x) = some (k.Put (place_of (local_place (number_of_local n))) (read_expr x).expr)
+  -- the indices of the place, the value, the write
   stat_layer (stat.Assign p x) = some (k.Put (place_of (read_place p)) (read_expr x).expr)
+  -- the indices, the read and its conversion, the value, the operator, a conversion back, the write. The operator works on the
+  -- type that the place has after its conversion.
   stat_layer (stat.Change o c p x) =
       some (k.Change (binary_of o (read_type c.read (type_of_place (read_place p)))) c.read c.result (place_of (read_place p)) (read_expr x).expr)
+  -- an else that is a block of no statements is none
   stat_layer (stat.If x s t) = some (if_stat (read_expr x).expr s t)
+  -- the condition, and where it is true the body, the step, and again
   stat_layer (stat.Loop x step body) = some (k.Loop (read_expr x).expr step.stat body.stat)
+  -- out of the function, without and with its result; out of the loop; on to the loop's step
   stat_layer stat.Return = some k.Return
   stat_layer (stat.ReturnValue x) = some (k.Give (read_expr x).expr)
   stat_layer stat.Break = some k.Break
   stat_layer stat.Continue = some k.Continue
+  -- a call for what it does; its result, if it has one, is let go
   stat_layer (stat.Run c) = some (k.Run (read_call c).callee (read_call c).given)
 
   abbrev pub read_stat : Stat → ReadStat
