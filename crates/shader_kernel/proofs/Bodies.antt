@@ -1,24 +1,24 @@
 -- Bodies with more to go on.
-use Rattle.std.proofs.Common.{◌≡◌, ℕ, zero, suc, ◌+◌, ◌/◌, ◌≤◌, Bool, true, false, List, [], ◌∷◌, ◌++◌, length, Option, Some, None, refl, sym, ap, ◌∙◌, subst, arith}
-use Rattle.std.specs.Prelude.{slice_get, map, take}
-use Rattle.behavior.specs.Values.{Value, Values, Truth, Word, Whole, NoMore, Then, Way, part, put_part}
-use Rattle.behavior.specs.Meanings.{End, Done, Out, Undefined, Stuck, IsPrefix}
-use Rattle.behavior.specs.Running.{World, Result, Went, Ends, Flow, Next, Broke, Continued, Returned}
-use Rattle.spirv_words.specs.Machine.{Shape, Nothing, Truths, Words, Repeated, Unbounded, Fields, PointerTo}
+use Rattle.std.proofs.Common.{ℕ, ◌+◌, ◌/◌, ◌≤◌, true, false, List, [], ◌∷◌, ◌++◌, Some, None}
+use Rattle.std.specs.Prelude.{slice_get, map}
+use Rattle.behavior.specs.Values.{Value, Values, Truth, Word, Whole, NoMore, Then, part, put_part}
+use Rattle.behavior.specs.Meanings.{Undefined, Stuck}
+use Rattle.behavior.specs.Running.{Flow, Next, Broke, Continued, Returned}
+use Rattle.spirv_words.specs.Machine.{Nothing, Truths, Words, Repeated, Unbounded, Fields, PointerTo}
 use Rattle.spirv_words.specs.Step.{Spot, Byte, Beyond, Nowhere, spot}
 use Rattle.shader_kernel.specs.Kernel.{Root, Local, Buffer, Expr, Known, Pure, Read, Element, Short, Choose, Call, Exprs, NoExpr, More, Numbers, NoNumber, Index, Place, At, Givens, NoGiven, Lent, Stat, Skip, Seq, Put, Change, If, When, Loop, Return, Give, Break, Continue, Run, Parameter, Function}
 use Rattle.shader_kernel.specs.Kernel as kernel
-use Rattle.shader_kernel.specs.Operators.{binary_way, node_way, at_path, zeros}
-use Rattle.shader_kernel.specs.Actions.{Action, gives, ends, and_with, either, with_way, with_word, with_truth, with_some, with_local, set_local, Numbered, with_numbers, ask, tell, pay, and_next, turns, back_at}
+use Rattle.shader_kernel.specs.Operators.{binary_way, node_way, at_path}
+use Rattle.shader_kernel.specs.Actions.{Action, gives, and_with, either, with_way, with_word, with_truth, with_some, set_local, Numbered, with_numbers, ask, tell}
 use Rattle.shader_kernel.specs.Meaning.{Bound, Fixed, Argument, Finals, Taken, Kept, Borrowed, argument_of, Calls, at_spot, at_scalar, read_scalar, write_scalar, read_like, read_parts, write_like, write_parts, read_place, write_place, give_back, constant_value, converted, call_with, call_means, expr_means, exprs_mean, numbers_mean, givens_mean, stat_means}
-use Rattle.shader_kernel.proofs.Steady.{prefix_same, events_of, longer, Extended, Steady, gives_steady, ends_steady, with_steady, next_steady, either_steady, way_steady, word_steady, truth_steady, some_steady, local_steady, set_steady, numbers_steady, ask_steady, tell_steady, pay_steady, turns_steady}
+use Rattle.shader_kernel.proofs.Steady.{Steady, gives_steady, ends_steady, with_steady, next_steady, either_steady, way_steady, word_steady, truth_steady, some_steady, local_steady, set_steady, numbers_steady, ask_steady, tell_steady, pay_steady, turns_steady}
 
 module _ (more : List ℕ) (k : ℕ) where
   -- the same with another result put in
   same_with : {A B : Type 0} (m : Action A) (go go' : A → Action B) → Steady more k m m → ((a : A) → Steady more k (go a) (go' a)) → Steady more k (and_with m go) (and_with m go')
   same_with m go go' s t = with_steady more k m m go go' s t
 
-  module _ {T : Type 0} (s : Fixed T) where
+  module _ (s : Fixed) where
     spot_steady : {A : Type 0} (x : Spot) (go : ℕ → Action A) → ((n : ℕ) → Steady more k (go n) (go n)) → Steady more k (at_spot s x go) (at_spot s x go)
     spot_steady (Byte n Nothing) go h = ends_steady more k Stuck
     spot_steady (Byte n Truths) go h = ends_steady more k Stuck
@@ -73,111 +73,117 @@ module _ (more : List ℕ) (k : ℕ) where
           next_steady more k (write_like s b numbers new v (path ++ i ∷ [])) (write_like s b numbers new v (path ++ i ∷ [])) (write_parts s b numbers new vs (i + 1) path) (write_parts s b numbers new vs (i + 1) path)
           (write_steady b numbers new v (path ++ i ∷ [])) (write_parts_steady b numbers new vs (i + 1) path)
 
-    read_place_steady : (root : Root) (numbers : List Numbered) (of : T) → Steady more k (read_place s root numbers of) (read_place s root numbers of)
-    read_place_steady (Local n) numbers of =
+    read_place_steady : (root : Root) (numbers : List Numbered) (like : Value) → Steady more k (read_place s root numbers like) (read_place s root numbers like)
+    read_place_steady (Local n) numbers like =
         let go : Value → Action Value = λ v. with_numbers numbers (λ ns. with_way (part v ns) gives) in
         local_steady more k n go go (λ v.
         numbers_steady more k numbers (λ ns. with_way (part v ns) gives) (λ ns. with_way (part v ns) gives) (λ ns.
         way_steady more k (part v ns) gives gives (gives_steady more k)))
-    read_place_steady (Buffer b) numbers of = read_steady b numbers (s.zero_of of) []
+    read_place_steady (Buffer b) numbers like = read_steady b numbers like []
 
-    write_place_steady : (root : Root) (numbers : List Numbered) (of : T) (new : Value) → Steady more k (write_place s root numbers of new) (write_place s root numbers of new)
-    write_place_steady (Local n) numbers of new =
+    write_place_steady : (root : Root) (numbers : List Numbered) (like : Value) (new : Value) → Steady more k (write_place s root numbers like new) (write_place s root numbers like new)
+    write_place_steady (Local n) numbers like new =
         let put : Value → List ℕ → Action Flow = λ v ns. with_way (part v ns) (λ old. with_way (put_part v ns new) (λ whole. set_local n whole)) in
         local_steady more k n (λ v. with_numbers numbers (put v)) (λ v. with_numbers numbers (put v)) (λ v.
         numbers_steady more k numbers (put v) (put v) (λ ns.
         way_steady more k (part v ns) (λ old. with_way (put_part v ns new) (λ whole. set_local n whole)) (λ old. with_way (put_part v ns new) (λ whole. set_local n whole)) (λ old.
         way_steady more k (put_part v ns new) (λ whole. set_local n whole) (λ whole. set_local n whole) (λ whole. set_steady more k n whole))))
-    write_place_steady (Buffer b) numbers of new = write_steady b numbers new (s.zero_of of) []
+    write_place_steady (Buffer b) numbers like new = write_steady b numbers new like []
 
-    give_back_steady : (taken : List (Taken T)) (finals : List Value) → Steady more k (give_back s taken finals) (give_back s taken finals)
+    give_back_steady : (taken : List Taken) (finals : List Value) → Steady more k (give_back s taken finals) (give_back s taken finals)
     give_back_steady [] finals = gives_steady more k Next
     give_back_steady (Kept v ∷ ts) [] = ends_steady more k Stuck
     give_back_steady (Kept v ∷ ts) (x ∷ xs) = give_back_steady ts xs
-    give_back_steady (Borrowed v root numbers of ∷ ts) [] = ends_steady more k Stuck
-    give_back_steady (Borrowed v root numbers of ∷ ts) (x ∷ xs) =
-        next_steady more k (write_place s root numbers of x) (write_place s root numbers of x) (give_back s ts xs) (give_back s ts xs) (write_place_steady root numbers of x) (give_back_steady ts xs)
+    give_back_steady (Borrowed v root numbers like ∷ ts) [] = ends_steady more k Stuck
+    give_back_steady (Borrowed v root numbers like ∷ ts) (x ∷ xs) =
+        next_steady more k (write_place s root numbers like x) (write_place s root numbers like x) (give_back s ts xs) (give_back s ts xs) (write_place_steady root numbers like x) (give_back_steady ts xs)
 
-    module _ {C : Type 0} (calls calls' : Calls C) (sound : (callee : C) (arguments : List Argument) → Steady more k (call_with s calls callee arguments) (call_with s calls' callee arguments)) where
-      call_steady : (callee : C) (taken : List (Taken T)) → Steady more k (call_means s calls callee taken) (call_means s calls' callee taken)
+    module _ {C T : Type 0} (zero_of : T → Value) (calls calls' : Calls C) (sound : (callee : C) (arguments : List Argument) → Steady more k (call_with s zero_of calls callee arguments) (call_with s zero_of calls' callee arguments)) where
+      call_steady : (callee : C) (taken : List Taken) → Steady more k (call_means s zero_of calls callee taken) (call_means s zero_of calls' callee taken)
       call_steady callee taken =
           let after : Finals → Action Finals = λ f. and_with (give_back s taken f.parameters) (λ done. gives f) in
+<<<<<<< HEAD
           pay_steady more k (and_with (call_with s calls callee (map argument_of taken)) after) (and_with (call_with s calls' callee (map argument_of taken)) after)
           (with_steady more k (call_with s calls callee (map argument_of taken)) (call_with s calls' callee (map argument_of taken)) after after (sound callee (map argument_of taken)) (λ f.
+=======
+          pay_steady more k (and_with (call_with s zero_of calls callee (map argument_of taken)) after) (and_with (call_with s zero_of calls' callee (map argument_of taken)) after)
+          (with_steady more k (call_with s zero_of calls callee (map argument_of taken)) (call_with s zero_of calls' callee (map argument_of taken)) after after (sound callee (map argument_of taken)) (λ f.
+>>>>>>> 8e77d3a279cc1a546b03bda0fc6732194722df87
           same_with (give_back s taken f.parameters) (λ done. gives f) (λ done. gives f) (give_back_steady taken f.parameters) (λ done. gives_steady more k f)))
 
       mutual
-        expr_steady : (e : Expr C T) → Steady more k (expr_means s calls e) (expr_means s calls' e)
-        expr_steady (Known c) = gives_steady more k (constant_value s c)
+        expr_steady : (e : Expr C T) → Steady more k (expr_means s zero_of calls e) (expr_means s zero_of calls' e)
+        expr_steady (Known c) = gives_steady more k (constant_value zero_of c)
         expr_steady (Pure node of parts) =
-            let go : List Value → Action Value = λ vs. with_way (node_way s.zero_of node vs) gives in
-            with_steady more k (exprs_mean s calls parts) (exprs_mean s calls' parts) go go (exprs_steady parts) (λ vs.
-            way_steady more k (node_way s.zero_of node vs) gives gives (gives_steady more k))
+            let go : List Value → Action Value = λ vs. with_way (node_way zero_of node vs) gives in
+            with_steady more k (exprs_mean s zero_of calls parts) (exprs_mean s zero_of calls' parts) go go (exprs_steady parts) (λ vs.
+            way_steady more k (node_way zero_of node vs) gives gives (gives_steady more k))
         expr_steady (Read (At root numbers of)) =
-            with_steady more k (numbers_mean s calls numbers) (numbers_mean s calls' numbers) (λ ns. read_place s root ns of) (λ ns. read_place s root ns of) (numbers_means_steady numbers) (λ ns. read_place_steady root ns of)
+            with_steady more k (numbers_mean s zero_of calls numbers) (numbers_mean s zero_of calls' numbers) (λ ns. read_place s root ns (zero_of of)) (λ ns. read_place s root ns (zero_of of)) (numbers_means_steady numbers) (λ ns. read_place_steady root ns (zero_of of))
         expr_steady (Element of value signed index) =
             let at : Value → Value → Action Value = λ v i. with_numbers (record { signed = signed; value = i } ∷ []) (λ ns. with_way (part v ns) gives) in
-            with_steady more k (expr_means s calls value) (expr_means s calls' value) (λ v. and_with (expr_means s calls index) (at v)) (λ v. and_with (expr_means s calls' index) (at v)) (expr_steady value) (λ v.
-            with_steady more k (expr_means s calls index) (expr_means s calls' index) (at v) (at v) (expr_steady index) (λ i.
+            with_steady more k (expr_means s zero_of calls value) (expr_means s zero_of calls' value) (λ v. and_with (expr_means s zero_of calls index) (at v)) (λ v. and_with (expr_means s zero_of calls' index) (at v)) (expr_steady value) (λ v.
+            with_steady more k (expr_means s zero_of calls index) (expr_means s zero_of calls' index) (at v) (at v) (expr_steady index) (λ i.
             numbers_steady more k (record { signed = signed; value = i } ∷ []) (λ ns. with_way (part v ns) gives) (λ ns. with_way (part v ns) gives) (λ ns.
             way_steady more k (part v ns) gives gives (gives_steady more k))))
         expr_steady (Short true a b) =
-            with_steady more k (expr_means s calls a) (expr_means s calls' a) (λ v. with_truth v (λ t. either t (expr_means s calls b) (gives v))) (λ v. with_truth v (λ t. either t (expr_means s calls' b) (gives v))) (expr_steady a) (λ v.
-            truth_steady more k v (λ t. either t (expr_means s calls b) (gives v)) (λ t. either t (expr_means s calls' b) (gives v)) (λ t.
-            either_steady more k t (expr_means s calls b) (expr_means s calls' b) (gives v) (gives v) (expr_steady b) (gives_steady more k v)))
+            with_steady more k (expr_means s zero_of calls a) (expr_means s zero_of calls' a) (λ v. with_truth v (λ t. either t (expr_means s zero_of calls b) (gives v))) (λ v. with_truth v (λ t. either t (expr_means s zero_of calls' b) (gives v))) (expr_steady a) (λ v.
+            truth_steady more k v (λ t. either t (expr_means s zero_of calls b) (gives v)) (λ t. either t (expr_means s zero_of calls' b) (gives v)) (λ t.
+            either_steady more k t (expr_means s zero_of calls b) (expr_means s zero_of calls' b) (gives v) (gives v) (expr_steady b) (gives_steady more k v)))
         expr_steady (Short false a b) =
-            with_steady more k (expr_means s calls a) (expr_means s calls' a) (λ v. with_truth v (λ t. either t (gives v) (expr_means s calls b))) (λ v. with_truth v (λ t. either t (gives v) (expr_means s calls' b))) (expr_steady a) (λ v.
-            truth_steady more k v (λ t. either t (gives v) (expr_means s calls b)) (λ t. either t (gives v) (expr_means s calls' b)) (λ t.
-            either_steady more k t (gives v) (gives v) (expr_means s calls b) (expr_means s calls' b) (gives_steady more k v) (expr_steady b)))
+            with_steady more k (expr_means s zero_of calls a) (expr_means s zero_of calls' a) (λ v. with_truth v (λ t. either t (gives v) (expr_means s zero_of calls b))) (λ v. with_truth v (λ t. either t (gives v) (expr_means s zero_of calls' b))) (expr_steady a) (λ v.
+            truth_steady more k v (λ t. either t (gives v) (expr_means s zero_of calls b)) (λ t. either t (gives v) (expr_means s zero_of calls' b)) (λ t.
+            either_steady more k t (gives v) (gives v) (expr_means s zero_of calls b) (expr_means s zero_of calls' b) (gives_steady more k v) (expr_steady b)))
         expr_steady (Choose of test a b) =
-            with_steady more k (expr_means s calls test) (expr_means s calls' test) (λ v. with_truth v (λ t. either t (expr_means s calls a) (expr_means s calls b))) (λ v. with_truth v (λ t. either t (expr_means s calls' a) (expr_means s calls' b))) (expr_steady test) (λ v.
-            truth_steady more k v (λ t. either t (expr_means s calls a) (expr_means s calls b)) (λ t. either t (expr_means s calls' a) (expr_means s calls' b)) (λ t.
-            either_steady more k t (expr_means s calls a) (expr_means s calls' a) (expr_means s calls b) (expr_means s calls' b) (expr_steady a) (expr_steady b)))
+            with_steady more k (expr_means s zero_of calls test) (expr_means s zero_of calls' test) (λ v. with_truth v (λ t. either t (expr_means s zero_of calls a) (expr_means s zero_of calls b))) (λ v. with_truth v (λ t. either t (expr_means s zero_of calls' a) (expr_means s zero_of calls' b))) (expr_steady test) (λ v.
+            truth_steady more k v (λ t. either t (expr_means s zero_of calls a) (expr_means s zero_of calls b)) (λ t. either t (expr_means s zero_of calls' a) (expr_means s zero_of calls' b)) (λ t.
+            either_steady more k t (expr_means s zero_of calls a) (expr_means s zero_of calls' a) (expr_means s zero_of calls b) (expr_means s zero_of calls' b) (expr_steady a) (expr_steady b)))
         expr_steady (Call callee of given) =
             let go : Finals → Action Value = λ f. with_some f.value gives in
-            with_steady more k (givens_mean s calls given) (givens_mean s calls' given) (λ taken. and_with (call_means s calls callee taken) go) (λ taken. and_with (call_means s calls' callee taken) go) (givens_steady given) (λ taken.
-            with_steady more k (call_means s calls callee taken) (call_means s calls' callee taken) go go (call_steady callee taken) (λ f.
+            with_steady more k (givens_mean s zero_of calls given) (givens_mean s zero_of calls' given) (λ taken. and_with (call_means s zero_of calls callee taken) go) (λ taken. and_with (call_means s zero_of calls' callee taken) go) (givens_steady given) (λ taken.
+            with_steady more k (call_means s zero_of calls callee taken) (call_means s zero_of calls' callee taken) go go (call_steady callee taken) (λ f.
             some_steady more k f.value gives gives (gives_steady more k)))
 
-        exprs_steady : (es : Exprs C T) → Steady more k (exprs_mean s calls es) (exprs_mean s calls' es)
+        exprs_steady : (es : Exprs C T) → Steady more k (exprs_mean s zero_of calls es) (exprs_mean s zero_of calls' es)
         exprs_steady NoExpr = gives_steady more k []
         exprs_steady (More e es) =
-            with_steady more k (expr_means s calls e) (expr_means s calls' e) (λ v. and_with (exprs_mean s calls es) (λ vs. gives (v ∷ vs))) (λ v. and_with (exprs_mean s calls' es) (λ vs. gives (v ∷ vs))) (expr_steady e) (λ v.
-            with_steady more k (exprs_mean s calls es) (exprs_mean s calls' es) (λ vs. gives (v ∷ vs)) (λ vs. gives (v ∷ vs)) (exprs_steady es) (λ vs. gives_steady more k (v ∷ vs)))
+            with_steady more k (expr_means s zero_of calls e) (expr_means s zero_of calls' e) (λ v. and_with (exprs_mean s zero_of calls es) (λ vs. gives (v ∷ vs))) (λ v. and_with (exprs_mean s zero_of calls' es) (λ vs. gives (v ∷ vs))) (expr_steady e) (λ v.
+            with_steady more k (exprs_mean s zero_of calls es) (exprs_mean s zero_of calls' es) (λ vs. gives (v ∷ vs)) (λ vs. gives (v ∷ vs)) (exprs_steady es) (λ vs. gives_steady more k (v ∷ vs)))
 
-        numbers_means_steady : (ns : Numbers C T) → Steady more k (numbers_mean s calls ns) (numbers_mean s calls' ns)
+        numbers_means_steady : (ns : Numbers C T) → Steady more k (numbers_mean s zero_of calls ns) (numbers_mean s zero_of calls' ns)
         numbers_means_steady NoNumber = gives_steady more k []
         numbers_means_steady (Index signed e rest) =
             let put : Value → List Numbered → Action (List Numbered) = λ v ns. gives (record { signed = signed; value = v } ∷ ns) in
-            with_steady more k (expr_means s calls e) (expr_means s calls' e) (λ v. and_with (numbers_mean s calls rest) (put v)) (λ v. and_with (numbers_mean s calls' rest) (put v)) (expr_steady e) (λ v.
-            with_steady more k (numbers_mean s calls rest) (numbers_mean s calls' rest) (put v) (put v) (numbers_means_steady rest) (λ ns. gives_steady more k (record { signed = signed; value = v } ∷ ns)))
+            with_steady more k (expr_means s zero_of calls e) (expr_means s zero_of calls' e) (λ v. and_with (numbers_mean s zero_of calls rest) (put v)) (λ v. and_with (numbers_mean s zero_of calls' rest) (put v)) (expr_steady e) (λ v.
+            with_steady more k (numbers_mean s zero_of calls rest) (numbers_mean s zero_of calls' rest) (put v) (put v) (numbers_means_steady rest) (λ ns. gives_steady more k (record { signed = signed; value = v } ∷ ns)))
 
-        givens_steady : (gs : Givens C T) → Steady more k (givens_mean s calls gs) (givens_mean s calls' gs)
+        givens_steady : (gs : Givens C T) → Steady more k (givens_mean s zero_of calls gs) (givens_mean s zero_of calls' gs)
         givens_steady NoGiven = gives_steady more k []
         givens_steady (kernel.Value e gs) =
-            with_steady more k (expr_means s calls e) (expr_means s calls' e) (λ v. and_with (givens_mean s calls gs) (λ ts. gives (Kept v ∷ ts))) (λ v. and_with (givens_mean s calls' gs) (λ ts. gives (Kept v ∷ ts))) (expr_steady e) (λ v.
-            with_steady more k (givens_mean s calls gs) (givens_mean s calls' gs) (λ ts. gives (Kept v ∷ ts)) (λ ts. gives (Kept v ∷ ts)) (givens_steady gs) (λ ts. gives_steady more k (Kept v ∷ ts)))
+            with_steady more k (expr_means s zero_of calls e) (expr_means s zero_of calls' e) (λ v. and_with (givens_mean s zero_of calls gs) (λ ts. gives (Kept v ∷ ts))) (λ v. and_with (givens_mean s zero_of calls' gs) (λ ts. gives (Kept v ∷ ts))) (expr_steady e) (λ v.
+            with_steady more k (givens_mean s zero_of calls gs) (givens_mean s zero_of calls' gs) (λ ts. gives (Kept v ∷ ts)) (λ ts. gives (Kept v ∷ ts)) (givens_steady gs) (λ ts. gives_steady more k (Kept v ∷ ts)))
         givens_steady (Lent true (At root numbers of) gs) =
-            let put : List Numbered → Value → List (Taken T) → Action (List (Taken T)) = λ ns v ts. gives (Borrowed v root ns of ∷ ts) in
-            with_steady more k (numbers_mean s calls numbers) (numbers_mean s calls' numbers) (λ ns. and_with (read_place s root ns of) (λ v. and_with (givens_mean s calls gs) (put ns v))) (λ ns. and_with (read_place s root ns of) (λ v. and_with (givens_mean s calls' gs) (put ns v))) (numbers_means_steady numbers) (λ ns.
-            with_steady more k (read_place s root ns of) (read_place s root ns of) (λ v. and_with (givens_mean s calls gs) (put ns v)) (λ v. and_with (givens_mean s calls' gs) (put ns v)) (read_place_steady root ns of) (λ v.
-            with_steady more k (givens_mean s calls gs) (givens_mean s calls' gs) (put ns v) (put ns v) (givens_steady gs) (λ ts. gives_steady more k (Borrowed v root ns of ∷ ts))))
+            let put : List Numbered → Value → List Taken → Action (List Taken) = λ ns v ts. gives (Borrowed v root ns (zero_of of) ∷ ts) in
+            with_steady more k (numbers_mean s zero_of calls numbers) (numbers_mean s zero_of calls' numbers) (λ ns. and_with (read_place s root ns (zero_of of)) (λ v. and_with (givens_mean s zero_of calls gs) (put ns v))) (λ ns. and_with (read_place s root ns (zero_of of)) (λ v. and_with (givens_mean s zero_of calls' gs) (put ns v))) (numbers_means_steady numbers) (λ ns.
+            with_steady more k (read_place s root ns (zero_of of)) (read_place s root ns (zero_of of)) (λ v. and_with (givens_mean s zero_of calls gs) (put ns v)) (λ v. and_with (givens_mean s zero_of calls' gs) (put ns v)) (read_place_steady root ns (zero_of of)) (λ v.
+            with_steady more k (givens_mean s zero_of calls gs) (givens_mean s zero_of calls' gs) (put ns v) (put ns v) (givens_steady gs) (λ ts. gives_steady more k (Borrowed v root ns (zero_of of) ∷ ts))))
         givens_steady (Lent false (At root numbers of) gs) =
-            let put : List Numbered → List (Taken T) → Action (List (Taken T)) = λ ns ts. gives (Borrowed (s.zero_of of) root ns of ∷ ts) in
-            with_steady more k (numbers_mean s calls numbers) (numbers_mean s calls' numbers) (λ ns. and_with (givens_mean s calls gs) (put ns)) (λ ns. and_with (givens_mean s calls' gs) (put ns)) (numbers_means_steady numbers) (λ ns.
-            with_steady more k (givens_mean s calls gs) (givens_mean s calls' gs) (put ns) (put ns) (givens_steady gs) (λ ts. gives_steady more k (Borrowed (s.zero_of of) root ns of ∷ ts)))
+            let put : List Numbered → List Taken → Action (List Taken) = λ ns ts. gives (Borrowed (zero_of of) root ns (zero_of of) ∷ ts) in
+            with_steady more k (numbers_mean s zero_of calls numbers) (numbers_mean s zero_of calls' numbers) (λ ns. and_with (givens_mean s zero_of calls gs) (put ns)) (λ ns. and_with (givens_mean s zero_of calls' gs) (put ns)) (numbers_means_steady numbers) (λ ns.
+            with_steady more k (givens_mean s zero_of calls gs) (givens_mean s zero_of calls' gs) (put ns) (put ns) (givens_steady gs) (λ ts. gives_steady more k (Borrowed (zero_of of) root ns (zero_of of) ∷ ts)))
 
       module _ (d d' : ℕ) (le : d ≤ d') where
-        pub stat_steady : (x : Stat C T) → Steady more k (stat_means s calls d x) (stat_means s calls' d' x)
+        pub stat_steady : (x : Stat C T) → Steady more k (stat_means s zero_of calls d x) (stat_means s zero_of calls' d' x)
         stat_steady Skip = gives_steady more k Next
-        stat_steady (Seq a b) = next_steady more k (stat_means s calls d a) (stat_means s calls' d' a) (stat_means s calls d b) (stat_means s calls' d' b) (stat_steady a) (stat_steady b)
+        stat_steady (Seq a b) = next_steady more k (stat_means s zero_of calls d a) (stat_means s zero_of calls' d' a) (stat_means s zero_of calls d b) (stat_means s zero_of calls' d' b) (stat_steady a) (stat_steady b)
         stat_steady (Put (At root numbers of) e) =
-            let put : List Numbered → Value → Action Flow = λ ns v. write_place s root ns of v in
-            with_steady more k (numbers_mean s calls numbers) (numbers_mean s calls' numbers) (λ ns. and_with (expr_means s calls e) (put ns)) (λ ns. and_with (expr_means s calls' e) (put ns)) (numbers_means_steady numbers) (λ ns.
-            with_steady more k (expr_means s calls e) (expr_means s calls' e) (put ns) (put ns) (expr_steady e) (λ v. write_place_steady root ns of v))
+            let put : List Numbered → Value → Action Flow = λ ns v. write_place s root ns (zero_of of) v in
+            with_steady more k (numbers_mean s zero_of calls numbers) (numbers_mean s zero_of calls' numbers) (λ ns. and_with (expr_means s zero_of calls e) (put ns)) (λ ns. and_with (expr_means s zero_of calls' e) (put ns)) (numbers_means_steady numbers) (λ ns.
+            with_steady more k (expr_means s zero_of calls e) (expr_means s zero_of calls' e) (put ns) (put ns) (expr_steady e) (λ v. write_place_steady root ns (zero_of of) v))
         stat_steady (Change b before after (At root numbers of) e) =
-            let store : List Numbered → Value → Action Flow = λ ns z. with_way (converted s after z) (λ new. write_place s root ns of new) in
+            let store : List Numbered → Value → Action Flow = λ ns z. with_way (converted after z) (λ new. write_place s root ns (zero_of of) new) in
             let put : List Numbered → Value → Value → Action Flow = λ ns x y. with_way (binary_way b x y) (store ns) in
+<<<<<<< HEAD
             with_steady more k (numbers_mean s calls numbers) (numbers_mean s calls' numbers)
             (λ ns. and_with (read_place s root ns of) (λ old. with_way (converted s before old) (λ x. and_with (expr_means s calls e) (put ns x))))
             (λ ns. and_with (read_place s root ns of) (λ old. with_way (converted s before old) (λ x. and_with (expr_means s calls' e) (put ns x))))
@@ -188,24 +194,36 @@ module _ (more : List ℕ) (k : ℕ) where
             (read_place_steady root ns of) (λ old.
             way_steady more k (converted s before old) (λ x. and_with (expr_means s calls e) (put ns x)) (λ x. and_with (expr_means s calls' e) (put ns x)) (λ x.
             with_steady more k (expr_means s calls e) (expr_means s calls' e) (put ns x) (put ns x) (expr_steady e) (λ y.
+=======
+            with_steady more k (numbers_mean s zero_of calls numbers) (numbers_mean s zero_of calls' numbers)
+            (λ ns. and_with (read_place s root ns (zero_of of)) (λ old. with_way (converted before old) (λ x. and_with (expr_means s zero_of calls e) (put ns x))))
+            (λ ns. and_with (read_place s root ns (zero_of of)) (λ old. with_way (converted before old) (λ x. and_with (expr_means s zero_of calls' e) (put ns x))))
+            (numbers_means_steady numbers) (λ ns.
+            with_steady more k (read_place s root ns (zero_of of)) (read_place s root ns (zero_of of))
+            (λ old. with_way (converted before old) (λ x. and_with (expr_means s zero_of calls e) (put ns x)))
+            (λ old. with_way (converted before old) (λ x. and_with (expr_means s zero_of calls' e) (put ns x)))
+            (read_place_steady root ns (zero_of of)) (λ old.
+            way_steady more k (converted before old) (λ x. and_with (expr_means s zero_of calls e) (put ns x)) (λ x. and_with (expr_means s zero_of calls' e) (put ns x)) (λ x.
+            with_steady more k (expr_means s zero_of calls e) (expr_means s zero_of calls' e) (put ns x) (put ns x) (expr_steady e) (λ y.
+>>>>>>> 8e77d3a279cc1a546b03bda0fc6732194722df87
             way_steady more k (binary_way b x y) (store ns) (store ns) (λ z.
-            way_steady more k (converted s after z) (λ new. write_place s root ns of new) (λ new. write_place s root ns of new) (λ new. write_place_steady root ns of new))))))
+            way_steady more k (converted after z) (λ new. write_place s root ns (zero_of of) new) (λ new. write_place s root ns (zero_of of) new) (λ new. write_place_steady root ns (zero_of of) new))))))
         stat_steady (If test a b) =
-            with_steady more k (expr_means s calls test) (expr_means s calls' test) (λ v. with_truth v (λ t. either t (stat_means s calls d a) (stat_means s calls d b))) (λ v. with_truth v (λ t. either t (stat_means s calls' d' a) (stat_means s calls' d' b))) (expr_steady test) (λ v.
-            truth_steady more k v (λ t. either t (stat_means s calls d a) (stat_means s calls d b)) (λ t. either t (stat_means s calls' d' a) (stat_means s calls' d' b)) (λ t.
-            either_steady more k t (stat_means s calls d a) (stat_means s calls' d' a) (stat_means s calls d b) (stat_means s calls' d' b) (stat_steady a) (stat_steady b)))
+            with_steady more k (expr_means s zero_of calls test) (expr_means s zero_of calls' test) (λ v. with_truth v (λ t. either t (stat_means s zero_of calls d a) (stat_means s zero_of calls d b))) (λ v. with_truth v (λ t. either t (stat_means s zero_of calls' d' a) (stat_means s zero_of calls' d' b))) (expr_steady test) (λ v.
+            truth_steady more k v (λ t. either t (stat_means s zero_of calls d a) (stat_means s zero_of calls d b)) (λ t. either t (stat_means s zero_of calls' d' a) (stat_means s zero_of calls' d' b)) (λ t.
+            either_steady more k t (stat_means s zero_of calls d a) (stat_means s zero_of calls' d' a) (stat_means s zero_of calls d b) (stat_means s zero_of calls' d' b) (stat_steady a) (stat_steady b)))
         stat_steady (When test a) =
-            with_steady more k (expr_means s calls test) (expr_means s calls' test) (λ v. with_truth v (λ t. either t (stat_means s calls d a) (gives Next))) (λ v. with_truth v (λ t. either t (stat_means s calls' d' a) (gives Next))) (expr_steady test) (λ v.
-            truth_steady more k v (λ t. either t (stat_means s calls d a) (gives Next)) (λ t. either t (stat_means s calls' d' a) (gives Next)) (λ t.
-            either_steady more k t (stat_means s calls d a) (stat_means s calls' d' a) (gives Next) (gives Next) (stat_steady a) (gives_steady more k Next)))
+            with_steady more k (expr_means s zero_of calls test) (expr_means s zero_of calls' test) (λ v. with_truth v (λ t. either t (stat_means s zero_of calls d a) (gives Next))) (λ v. with_truth v (λ t. either t (stat_means s zero_of calls' d' a) (gives Next))) (expr_steady test) (λ v.
+            truth_steady more k v (λ t. either t (stat_means s zero_of calls d a) (gives Next)) (λ t. either t (stat_means s zero_of calls' d' a) (gives Next)) (λ t.
+            either_steady more k t (stat_means s zero_of calls d a) (stat_means s zero_of calls' d' a) (gives Next) (gives Next) (stat_steady a) (gives_steady more k Next)))
         stat_steady (Loop test step body) =
-            turns_steady more k (expr_means s calls test) (expr_means s calls' test) (stat_means s calls d step) (stat_means s calls' d' step) (stat_means s calls d body) (stat_means s calls' d' body) (expr_steady test) (stat_steady step) (stat_steady body) d d' le
+            turns_steady more k (expr_means s zero_of calls test) (expr_means s zero_of calls' test) (stat_means s zero_of calls d step) (stat_means s zero_of calls' d' step) (stat_means s zero_of calls d body) (stat_means s zero_of calls' d' body) (expr_steady test) (stat_steady step) (stat_steady body) d d' le
         stat_steady Return = gives_steady more k (Returned None)
         stat_steady (Give e) =
-            with_steady more k (expr_means s calls e) (expr_means s calls' e) (λ v. gives (Returned (Some v))) (λ v. gives (Returned (Some v))) (expr_steady e) (λ v. gives_steady more k (Returned (Some v)))
+            with_steady more k (expr_means s zero_of calls e) (expr_means s zero_of calls' e) (λ v. gives (Returned (Some v))) (λ v. gives (Returned (Some v))) (expr_steady e) (λ v. gives_steady more k (Returned (Some v)))
         stat_steady Break = gives_steady more k Broke
         stat_steady Continue = gives_steady more k Continued
         stat_steady (Run callee given) =
             let go : Finals → Action Flow = λ f. gives Next in
-            with_steady more k (givens_mean s calls given) (givens_mean s calls' given) (λ taken. and_with (call_means s calls callee taken) go) (λ taken. and_with (call_means s calls' callee taken) go) (givens_steady given) (λ taken.
-            with_steady more k (call_means s calls callee taken) (call_means s calls' callee taken) go go (call_steady callee taken) (λ f. gives_steady more k Next))
+            with_steady more k (givens_mean s zero_of calls given) (givens_mean s zero_of calls' given) (λ taken. and_with (call_means s zero_of calls callee taken) go) (λ taken. and_with (call_means s zero_of calls' callee taken) go) (givens_steady given) (λ taken.
+            with_steady more k (call_means s zero_of calls callee taken) (call_means s zero_of calls' callee taken) go go (call_steady callee taken) (λ f. gives_steady more k Next))

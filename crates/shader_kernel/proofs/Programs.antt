@@ -1,14 +1,13 @@
 -- Programs with more to go on.
-use Rattle.std.proofs.Common.{◌≡◌, ◌≢◌, ℕ, zero, suc, ◌+◌, ◌≤◌, ◌⊎◌, inl, inr, ⊎_elim, Bool, true, false, List, [], ◌∷◌, ◌++◌, length, Option, Some, None, refl, sym, ap, ◌∙◌, subst, arith}
-use Rattle.std.specs.Prelude.{map, take}
-use Rattle.std.proofs.lemmas.List.{append-nil}
+use Rattle.std.proofs.Common.{◌≡◌, ◌≢◌, ℕ, zero, suc, ◌+◌, ◌≤◌, inl, inr, ⊎_elim, Bool, true, false, List, [], ◌++◌, length, Option, Some, None, refl, sym, ap, ◌∙◌, subst, arith}
+use Rattle.std.specs.Prelude.{map}
 use Rattle.behavior.specs.Values.{Value}
-use Rattle.behavior.specs.Meanings.{Event, End, Done, Out, Undefined, Stuck, Outcome, Ids, IsPrefix, ReachedBy}
+use Rattle.behavior.specs.Meanings.{Event, Done, Out, Undefined, Stuck, Outcome, IsPrefix, ReachedBy}
 use Rattle.behavior.specs.Running.{World, Result, Went, Ends, Flow, Next, Broke, Continued, Returned, outcome}
-use Rattle.shader_kernel.specs.Kernel.{Parameter, Function}
+use Rattle.shader_kernel.specs.Kernel.{Function}
 use Rattle.shader_kernel.specs.Operators.{zeros}
-use Rattle.shader_kernel.specs.Actions.{Action, ends, either, back_at}
-use Rattle.shader_kernel.specs.Meaning.{Fixed, Argument, Finals, Calls, call_with, stat_means, finals, fit, value_of, Program, fixed, body_means, function_means, calls_at, entry_means, input_values, means}
+use Rattle.shader_kernel.specs.Actions.{ends, either, back_at}
+use Rattle.shader_kernel.specs.Meaning.{Argument, Calls, call_with, finals, fit, value_of, Program, fixed, body_means, function_means, calls_at, entry_means, input_values, means}
 use Rattle.shader_kernel.specs.Extending.{IsExtended, IsDetermined}
 use Rattle.shader_kernel.proofs.Steady.{prefix_same, events_of, longer, Extended, Steady, ends_steady, either_steady}
 use Rattle.shader_kernel.proofs.Bodies.{stat_steady}
@@ -58,7 +57,7 @@ module _ (more : List ℕ) (k : ℕ) where
     pub extends : (callee : C) (arguments : List Argument) (w : World) → Extended more k (calls callee arguments w) (calls' callee arguments (longer more k w))
 
   module _ {C T : Type 0} (p : Program C T) (lengths : ℕ → ℕ → ℕ) where
-    sound_of : (calls calls' : Calls C) → CallsSteady calls calls' → (callee : C) (arguments : List Argument) → Steady more k (call_with (fixed p lengths) calls callee arguments) (call_with (fixed p lengths) calls' callee arguments)
+    sound_of : (calls calls' : Calls C) → CallsSteady calls calls' → (callee : C) (arguments : List Argument) → Steady more k (call_with (fixed p lengths) p.zero_of calls callee arguments) (call_with (fixed p lengths) p.zero_of calls' callee arguments)
     sound_of calls calls' s callee arguments = record {
       keeps = λ l w. back_keeps (calls' callee arguments w) l w.events (s.keeps callee arguments w);
       extends = λ l w. back_extends (calls callee arguments w) (calls' callee arguments (longer more k w)) l (s.extends callee arguments w);
@@ -66,7 +65,7 @@ module _ (more : List ℕ) (k : ℕ) where
 
     body_steady : (d d' : ℕ) (calls calls' : Calls C) → d ≤ d' → CallsSteady calls calls' → (f : Function C T) (given : List Value) → Steady more k (body_means p lengths d calls f given) (body_means p lengths d' calls' f given)
     body_steady d d' calls calls' le s f given =
-        let inner = stat_steady more k (fixed p lengths) calls calls' (sound_of calls calls' s) d d' le f.body in
+        let inner = stat_steady more k (fixed p lengths) p.zero_of calls calls' (sound_of calls calls' s) d d' le f.body in
         record {
           keeps = λ l w. inner.keeps (given ++ zeros p.zero_of f.locals) w;
           extends = λ l w. inner.extends (given ++ zeros p.zero_of f.locals) w;

@@ -1,12 +1,12 @@
 -- Actions with more to go on: further answers, and more turns and calls that can be paid for.
 use Rattle.std.proofs.Common.{◌≡◌, ℕ, zero, suc, ◌+◌, ◌≤◌, Bool, true, false, ◌&&◌, List, [], ◌∷◌, ◌++◌, Option, Some, None, refl, sym, ap, ◌∙◌, subst, arith, append_assoc}
-use Rattle.std.specs.Prelude.{slice_get, slice_set}
+use Rattle.std.specs.Prelude.{slice_get}
 use Rattle.std.proofs.lemmas.List.{append-nil}
 use Rattle.behavior.specs.Values.{Value, Truth, Word, Whole, Way, Found, Outside, Wrong}
 use Rattle.behavior.specs.Operations.{is_negative}
-use Rattle.behavior.specs.Meanings.{Event, Read, Write, End, Done, Out, Undefined, Stuck, Outcome, IsPrefix}
-use Rattle.behavior.specs.Running.{World, Result, Went, Ends, then, Flow, Next, Broke, Continued, Returned, then_next, on_word, on_local, on_way}
-use Rattle.shader_kernel.specs.Actions.{Action, gives, ends, and_with, either, with_way, with_word, with_truth, with_some, with_local, set_local, Numbered, with_numbers, answered, ask, tell, paid, pay, and_next, then_turn, and_turn, turns, back_at}
+use Rattle.behavior.specs.Meanings.{Event, Read, Write, End, Done, Out, Undefined, Stuck, IsPrefix}
+use Rattle.behavior.specs.Running.{World, Result, Went, Ends, then, Flow, Next, Broke, Continued, Returned, then_next, on_local}
+use Rattle.shader_kernel.specs.Actions.{Action, gives, ends, and_with, either, with_way, with_word, with_truth, with_some, with_local, set_local, Numbered, with_numbers, answered, ask, tell, paid, pay, and_next, then_turn, and_turn, turns}
 
 pub prefix_same : (a : List Event) → IsPrefix a a
 prefix_same a = ([], append-nil a)

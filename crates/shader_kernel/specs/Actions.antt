@@ -1,9 +1,9 @@
 -- What a part of a body does, as a function of the locals and of what the run has left: it goes on with a result, or it is the
 -- end of the whole run. All meanings are made of the few actions here.
-use Rattle.std.specs.Prelude.{ℕ, zero, suc, ◌/◌, Bool, true, false, ◌&&◌, List, [], ◌∷◌, ◌++◌, Option, Some, None, slice_get, slice_set}
-use Rattle.behavior.specs.Values.{Value, Truth, Word, Whole, Way, Found, Outside, Wrong}
+use Rattle.std.specs.Prelude.{ℕ, zero, suc, Bool, true, false, ◌&&◌, List, [], ◌∷◌, ◌++◌, Option, Some, None, slice_get, slice_set}
+use Rattle.behavior.specs.Values.{Value, Truth, Word, Whole, Way}
 use Rattle.behavior.specs.Operations.{is_negative}
-use Rattle.behavior.specs.Meanings.{Event, Read, Write, End, Out, Undefined, Stuck}
+use Rattle.behavior.specs.Meanings.{Read, Write, End, Out, Undefined, Stuck}
 use Rattle.behavior.specs.Running.{World, Result, Went, Ends, then, Flow, Next, Broke, Continued, Returned, then_next, and_event, on_word, on_local, on_way}
 
 abbrev pub Action : Type 0 → Type 0

@@ -1,7 +1,7 @@
 -- The kernel: one small language for bodies, in which each name is resolved and each operator knows the sign that it works on.
 -- `C` says who is called, and `T` what a type is: a program that is read as it was checked, and one of which each instance has
 -- a number, are written in it alike.
-use Rattle.std.specs.Prelude.{ℕ, Bool, List, Option}
+use Rattle.std.specs.Prelude.{ℕ, Bool, List}
 use Rattle.slang_names.specs.declared.places.Mode.{Mode}
 
 -- a number with the sign of its type, in two's complement; a bool; or the zero of a type

@@ -3,4 +3,5 @@ pub mod Operators
 pub mod Actions
 pub mod Meaning
 pub mod Shader
+pub mod Alike
 pub mod Extending

@@ -1,10 +1,10 @@
 -- What programs in the kernel mean.
-use Rattle.std.specs.Prelude.{ℕ, zero, suc, ◌+◌, ◌/◌, Bool, true, false, not, ◌&&◌, cond, nat_eq, List, [], ◌∷◌, ◌++◌, length, map, take, Option, Some, None, slice_get}
+use Rattle.std.specs.Prelude.{ℕ, zero, suc, ◌+◌, ◌/◌, Bool, true, false, not, ◌&&◌, List, [], ◌∷◌, ◌++◌, length, map, take, Option, Some, None, slice_get}
 use Rattle.slang_names.specs.declared.places.Mode.{Mode}
 use Rattle.slang_names.specs.declared.places.Mode.TheVariants as mode
-use Rattle.behavior.specs.Values.{Value, Values, Truth, Word, Whole, NoMore, Then, Way, Found, part, put_part, triple}
-use Rattle.behavior.specs.Meanings.{Out, Undefined, Stuck, Outcome, Ids, Meaning}
-use Rattle.behavior.specs.Running.{World, Result, Went, Ends, then, Flow, Next, Broke, Continued, Returned, outcome}
+use Rattle.behavior.specs.Values.{Value, Values, Truth, Word, Whole, NoMore, Then, Way, Found, part, put_part}
+use Rattle.behavior.specs.Meanings.{Out, Undefined, Stuck, Ids, Meaning}
+use Rattle.behavior.specs.Running.{World, Result, Went, Ends, Flow, Next, Broke, Continued, Returned, outcome}
 use Rattle.spirv_words.specs.Machine.{Shape, Words}
 use Rattle.spirv_words.specs.Step.{Spot, Byte, Beyond, Nowhere, spot}
 use Rattle.shader_kernel.specs.Kernel.{Constant, Number, Logical, Null, Binary, Node, One, Convert, Root, Local, Buffer, Expr, Known, Pure, Read, Element, Short, Choose, Call, Exprs, NoExpr, More, Numbers, NoNumber, Index, Place, At, Givens, NoGiven, Lent, Stat, Skip, Seq, Put, Change, If, When, Loop, Return, Give, Break, Continue, Run, Parameter, Function}
@@ -20,11 +20,10 @@ pub record Bound : Type 0 where
   pub binding : ℕ
   pub shape : Shape
 
--- the program's buffers, how many words each has by set and binding, and the zero of each type
-pub record Fixed (T : Type 0) : Type 0 where
+-- the program's buffers, and how many words each has by set and binding
+pub record Fixed : Type 0 where
   pub buffers : List Bound
   pub lengths : ℕ → ℕ → ℕ
-  pub zero_of : T → Value
 
 -- what a callee's parameter is given, and how it is passed
 pub record Argument : Type 0 where
@@ -36,20 +35,32 @@ pub record Finals : Type 0 where
   pub value : Option Value
   pub parameters : List Value
 
--- an argument that was taken: a value, or a place with its numbers
-pub data Taken (T : Type 0) : Type 0 where
-  Kept : (v : Value) → Taken T
-  Borrowed : (v : Value) (root : Root) (numbers : List Numbered) (of : T) → Taken T
+-- an argument that was taken: a value, or a place with its numbers and the zero of its type
+pub data Taken : Type 0 where
+  Kept : (v : Value) → Taken
+  Borrowed : (v : Value) (root : Root) (numbers : List Numbered) (like : Value) → Taken
 
-abbrev pub argument_of : {T : Type 0} → Taken T → Argument
+abbrev pub argument_of : Taken → Argument
 argument_of (Kept v) = record { lent = false; value = v }
-argument_of (Borrowed v root numbers of) = record { lent = true; value = v }
+argument_of (Borrowed v root numbers like) = record { lent = true; value = v }
 
 -- what the callees do, with the argument of each parameter
 abbrev pub Calls : Type 0 → Type 0
 Calls C = C → List Argument → World → Result Finals
 
-module _ {T : Type 0} (s : Fixed T) where
+-- ---- constants and conversions
+
+abbrev pub constant_value : {T : Type 0} → (T → Value) → Constant T → Value
+constant_value zero_of (Number signed n) = Word n
+constant_value zero_of (Logical b) = Truth b
+constant_value zero_of (Null of) = zero_of of
+
+-- a conversion between int and uint, where there is one
+abbrev pub converted : Bool → Value → Way
+converted true v = unary_way Convert v
+converted false v = Found v
+
+module _ (s : Fixed) where
   -- ---- accesses of buffer data
 
   -- a scalar of buffer data, by its path: it stands at a byte, and an index out of range is undefined
@@ -94,54 +105,44 @@ module _ {T : Type 0} (s : Fixed T) where
     write_parts b numbers new (Then v vs) k path =
         and_next (write_like b numbers new v (path ++ k ∷ [])) (write_parts b numbers new vs (k + 1) path)
 
-  -- ---- accesses of places, by their numbers
+  -- ---- accesses of places, by their numbers; the data of a buffer is like this value
 
-  abbrev pub read_place : Root → List Numbered → T → Action Value
-  read_place (Local n) numbers of =
+  abbrev pub read_place : Root → List Numbered → Value → Action Value
+  read_place (Local n) numbers like =
       with_local n (λ v. with_numbers numbers (λ ns. with_way (part v ns) gives))
-  read_place (Buffer b) numbers of = read_like b numbers (s.zero_of of) []
+  read_place (Buffer b) numbers like = read_like b numbers like []
 
   -- the place is looked for before anything is written to it
-  abbrev pub write_place : Root → List Numbered → T → Value → Action Flow
-  write_place (Local n) numbers of new =
+  abbrev pub write_place : Root → List Numbered → Value → Value → Action Flow
+  write_place (Local n) numbers like new =
       with_local n (λ v. with_numbers numbers (λ ns. with_way (part v ns) (λ old. with_way (put_part v ns new) (λ whole. set_local n whole))))
-  write_place (Buffer b) numbers of new = write_like b numbers new (s.zero_of of) []
+  write_place (Buffer b) numbers like new = write_like b numbers new like []
 
   -- after a call: what the lent places are given, from left to right
-  abbrev pub give_back : List (Taken T) → List Value → Action Flow
+  abbrev pub give_back : List Taken → List Value → Action Flow
   give_back [] finals = gives Next
   give_back (Kept v ∷ ts) [] = ends Stuck
   give_back (Kept v ∷ ts) (x ∷ xs) = give_back ts xs
-  give_back (Borrowed v root numbers of ∷ ts) [] = ends Stuck
-  give_back (Borrowed v root numbers of ∷ ts) (x ∷ xs) = and_next (write_place root numbers of x) (give_back ts xs)
+  give_back (Borrowed v root numbers like ∷ ts) [] = ends Stuck
+  give_back (Borrowed v root numbers like ∷ ts) (x ∷ xs) = and_next (write_place root numbers like x) (give_back ts xs)
 
   -- ---- bodies
 
-  abbrev pub constant_value : Constant T → Value
-  constant_value (Number signed n) = Word n
-  constant_value (Logical b) = Truth b
-  constant_value (Null of) = s.zero_of of
-
-  -- a conversion between int and uint, where there is one
-  abbrev pub converted : Bool → Value → Way
-  converted true v = unary_way Convert v
-  converted false v = Found v
-
-  module _ {C : Type 0} (calls : Calls C) where
+  module _ {C T : Type 0} (zero_of : T → Value) (calls : Calls C) where
     -- the call itself is paid for when all is taken; then its body runs, and lent places are written back
     abbrev pub call_with : C → List Argument → Action Finals
     call_with callee arguments l w = back_at (calls callee arguments w) l
 
-    abbrev pub call_means : C → List (Taken T) → Action Finals
+    abbrev pub call_means : C → List Taken → Action Finals
     call_means callee taken =
         pay (and_with (call_with callee (map argument_of taken)) (λ f. and_with (give_back taken f.parameters) (λ done. gives f)))
 
     -- parts are evaluated from left to right
     abbrev mutual
       pub expr_means : Expr C T → Action Value
-      expr_means (Known c) = gives (constant_value c)
-      expr_means (Pure node of parts) = and_with (exprs_mean parts) (λ vs. with_way (node_way s.zero_of node vs) gives)
-      expr_means (Read (At root numbers of)) = and_with (numbers_mean numbers) (λ ns. read_place root ns of)
+      expr_means (Known c) = gives (constant_value zero_of c)
+      expr_means (Pure node of parts) = and_with (exprs_mean parts) (λ vs. with_way (node_way zero_of node vs) gives)
+      expr_means (Read (At root numbers of)) = and_with (numbers_mean numbers) (λ ns. read_place root ns (zero_of of))
       expr_means (Element of value signed index) =
           and_with (expr_means value) (λ v. and_with (expr_means index) (λ i.
           with_numbers (record { signed = signed; value = i } ∷ []) (λ ns. with_way (part v ns) gives)))
@@ -161,24 +162,24 @@ module _ {T : Type 0} (s : Fixed T) where
           and_with (expr_means e) (λ v. and_with (numbers_mean rest) (λ ns. gives (record { signed = signed; value = v } ∷ ns)))
 
       -- of a place that is only written, the numbers are evaluated at its turn, and the callee's parameter begins as zero
-      pub givens_mean : Givens C T → Action (List (Taken T))
+      pub givens_mean : Givens C T → Action (List Taken)
       givens_mean NoGiven = gives []
       givens_mean (kernel.Value e gs) = and_with (expr_means e) (λ v. and_with (givens_mean gs) (λ ts. gives (Kept v ∷ ts)))
       givens_mean (Lent true (At root numbers of) gs) =
-          and_with (numbers_mean numbers) (λ ns. and_with (read_place root ns of) (λ v.
-          and_with (givens_mean gs) (λ ts. gives (Borrowed v root ns of ∷ ts))))
+          and_with (numbers_mean numbers) (λ ns. and_with (read_place root ns (zero_of of)) (λ v.
+          and_with (givens_mean gs) (λ ts. gives (Borrowed v root ns (zero_of of) ∷ ts))))
       givens_mean (Lent false (At root numbers of) gs) =
-          and_with (numbers_mean numbers) (λ ns. and_with (givens_mean gs) (λ ts. gives (Borrowed (s.zero_of of) root ns of ∷ ts)))
+          and_with (numbers_mean numbers) (λ ns. and_with (givens_mean gs) (λ ts. gives (Borrowed (zero_of of) root ns (zero_of of) ∷ ts)))
 
     -- a statement, with at most so many turns of each loop
     abbrev pub stat_means : ℕ → Stat C T → Action Flow
     stat_means d Skip = gives Next
     stat_means d (Seq a b) = and_next (stat_means d a) (stat_means d b)
     stat_means d (Put (At root numbers of) e) =
-        and_with (numbers_mean numbers) (λ ns. and_with (expr_means e) (λ v. write_place root ns of v))
+        and_with (numbers_mean numbers) (λ ns. and_with (expr_means e) (λ v. write_place root ns (zero_of of) v))
     stat_means d (Change b before after (At root numbers of) e) =
-        and_with (numbers_mean numbers) (λ ns. and_with (read_place root ns of) (λ old. with_way (converted before old) (λ x.
-        and_with (expr_means e) (λ y. with_way (binary_way b x y) (λ z. with_way (converted after z) (λ new. write_place root ns of new))))))
+        and_with (numbers_mean numbers) (λ ns. and_with (read_place root ns (zero_of of)) (λ old. with_way (converted before old) (λ x.
+        and_with (expr_means e) (λ y. with_way (binary_way b x y) (λ z. with_way (converted after z) (λ new. write_place root ns (zero_of of) new))))))
     stat_means d (If test a b) = and_with (expr_means test) (λ v. with_truth v (λ t. either t (stat_means d a) (stat_means d b)))
     stat_means d (When test a) = and_with (expr_means test) (λ v. with_truth v (λ t. either t (stat_means d a) (gives Next)))
     stat_means d (Loop test step body) = turns d (expr_means test) (stat_means d step) (stat_means d body)
@@ -230,13 +231,13 @@ pub record Program (C T : Type 0) : Type 0 where
   pub entry : C
   pub inputs : List (Ids → Value)
 
-abbrev pub fixed : {C T : Type 0} → Program C T → (ℕ → ℕ → ℕ) → Fixed T
-fixed p lengths = record { buffers = p.buffers; lengths = lengths; zero_of = p.zero_of }
+abbrev pub fixed : {C T : Type 0} → Program C T → (ℕ → ℕ → ℕ) → Fixed
+fixed p lengths = record { buffers = p.buffers; lengths = lengths }
 
 module _ {C T : Type 0} (p : Program C T) (lengths : ℕ → ℕ → ℕ) where
   -- a body begins with its parameters and with zeros for its locals
   abbrev pub body_means : ℕ → Calls C → Function C T → List Value → Action Flow
-  body_means d calls f given l w = stat_means (fixed p lengths) calls d f.body (given ++ zeros p.zero_of f.locals) w
+  body_means d calls f given l w = stat_means (fixed p lengths) p.zero_of calls d f.body (given ++ zeros p.zero_of f.locals) w
 
   abbrev pub function_means : ℕ → Calls C → Option (Function C T) → List Argument → World → Result Finals
   function_means d calls None arguments w = Ends w.events Stuck

@@ -3,4 +3,4 @@
 
 mod laws;
 
-pub use laws::more_extends_a_run;
+pub use laws::{more_extends_a_run, names_do_not_matter};
