@@ -102,13 +102,8 @@ module _ (more : List ℕ) (k : ℕ) where
       call_steady : (callee : C) (taken : List Taken) → Steady more k (call_means s zero_of calls callee taken) (call_means s zero_of calls' callee taken)
       call_steady callee taken =
           let after : Finals → Action Finals = λ f. and_with (give_back s taken f.parameters) (λ done. gives f) in
-<<<<<<< HEAD
-          pay_steady more k (and_with (call_with s calls callee (map argument_of taken)) after) (and_with (call_with s calls' callee (map argument_of taken)) after)
-          (with_steady more k (call_with s calls callee (map argument_of taken)) (call_with s calls' callee (map argument_of taken)) after after (sound callee (map argument_of taken)) (λ f.
-=======
           pay_steady more k (and_with (call_with s zero_of calls callee (map argument_of taken)) after) (and_with (call_with s zero_of calls' callee (map argument_of taken)) after)
           (with_steady more k (call_with s zero_of calls callee (map argument_of taken)) (call_with s zero_of calls' callee (map argument_of taken)) after after (sound callee (map argument_of taken)) (λ f.
->>>>>>> 8e77d3a279cc1a546b03bda0fc6732194722df87
           same_with (give_back s taken f.parameters) (λ done. gives f) (λ done. gives f) (give_back_steady taken f.parameters) (λ done. gives_steady more k f)))
 
       mutual
@@ -183,18 +178,6 @@ module _ (more : List ℕ) (k : ℕ) where
         stat_steady (Change b before after (At root numbers of) e) =
             let store : List Numbered → Value → Action Flow = λ ns z. with_way (converted after z) (λ new. write_place s root ns (zero_of of) new) in
             let put : List Numbered → Value → Value → Action Flow = λ ns x y. with_way (binary_way b x y) (store ns) in
-<<<<<<< HEAD
-            with_steady more k (numbers_mean s calls numbers) (numbers_mean s calls' numbers)
-            (λ ns. and_with (read_place s root ns of) (λ old. with_way (converted s before old) (λ x. and_with (expr_means s calls e) (put ns x))))
-            (λ ns. and_with (read_place s root ns of) (λ old. with_way (converted s before old) (λ x. and_with (expr_means s calls' e) (put ns x))))
-            (numbers_means_steady numbers) (λ ns.
-            with_steady more k (read_place s root ns of) (read_place s root ns of)
-            (λ old. with_way (converted s before old) (λ x. and_with (expr_means s calls e) (put ns x)))
-            (λ old. with_way (converted s before old) (λ x. and_with (expr_means s calls' e) (put ns x)))
-            (read_place_steady root ns of) (λ old.
-            way_steady more k (converted s before old) (λ x. and_with (expr_means s calls e) (put ns x)) (λ x. and_with (expr_means s calls' e) (put ns x)) (λ x.
-            with_steady more k (expr_means s calls e) (expr_means s calls' e) (put ns x) (put ns x) (expr_steady e) (λ y.
-=======
             with_steady more k (numbers_mean s zero_of calls numbers) (numbers_mean s zero_of calls' numbers)
             (λ ns. and_with (read_place s root ns (zero_of of)) (λ old. with_way (converted before old) (λ x. and_with (expr_means s zero_of calls e) (put ns x))))
             (λ ns. and_with (read_place s root ns (zero_of of)) (λ old. with_way (converted before old) (λ x. and_with (expr_means s zero_of calls' e) (put ns x))))
@@ -205,7 +188,6 @@ module _ (more : List ℕ) (k : ℕ) where
             (read_place_steady root ns (zero_of of)) (λ old.
             way_steady more k (converted before old) (λ x. and_with (expr_means s zero_of calls e) (put ns x)) (λ x. and_with (expr_means s zero_of calls' e) (put ns x)) (λ x.
             with_steady more k (expr_means s zero_of calls e) (expr_means s zero_of calls' e) (put ns x) (put ns x) (expr_steady e) (λ y.
->>>>>>> 8e77d3a279cc1a546b03bda0fc6732194722df87
             way_steady more k (binary_way b x y) (store ns) (store ns) (λ z.
             way_steady more k (converted after z) (λ new. write_place s root ns (zero_of of) new) (λ new. write_place s root ns (zero_of of) new) (λ new. write_place_steady root ns (zero_of of) new))))))
         stat_steady (If test a b) =
