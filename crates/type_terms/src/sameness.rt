@@ -79,9 +79,15 @@ pub fn same_arg(a: &Arg, b: &Arg) -> bool
 fn same_args(a: &[Arg], b: &[Arg]) -> bool
     ensures { result ≡ types.all_same (map types.same_arg a.now) b.now }
 {
-    match (a, b) {
-        ([], []) => true,
-        ([x, xs @ ..], [y, ys @ ..]) => same_arg(x, y) && same_args(xs, ys),
-        _ => false,
+    let mut others = b;
+    for x in a {
+        let [y, rest @ ..] = others else {
+            return false;
+        };
+        if !same_arg(x, y) {
+            return false;
+        }
+        others = rest;
     }
+    others.is_empty()
 }

@@ -41,10 +41,14 @@ fn left_of_arg(arg: &Arg, nodes_left: u32) -> Option<u32>
 fn left_of_args(args: &[Arg], nodes_left: u32) -> Option<u32>
     ensures { MatchOption result (nodes_left < sum (map types.nodes_of_arg args.now)) (λ left. left + sum (map types.nodes_of_arg args.now) ≡ nodes_left) }
 {
-    match args {
-        [] => Some(nodes_left),
-        [first, others @ ..] => left_of_args(others, left_of_arg(first, nodes_left)?),
+    let mut left = nodes_left;
+    for arg in args {
+        left = match left_of_arg(arg, left) {
+            Some(left) => left,
+            None => return None,
+        };
     }
+    Some(left)
 }
 
 /// Whether the type has fewer nodes than that.
