@@ -34,24 +34,14 @@ fn is_unsigned_type(term: &TypeTerm) -> bool
 fn vector_worth(alloc: Global, is_unsigned: bool, parts: &[Expr]) -> Result<Worth, AllocError>
     ensures { IfOk result (λ made. made ≡ values.vector_worth is_unsigned (map values.value_of parts.now)) }
 {
-    match parts {
-        [] => Ok(Worth::Words(is_unsigned, Items::new(alloc))),
-        [first, others @ ..] => {
-            let first = value_of(alloc, first)?;
-            let others = vector_worth(alloc, is_unsigned, others)?;
-            joined(first, others)
-        }
+    let mut made = Worth::Words(is_unsigned, Items::new(alloc));
+    let mut left = parts.len();
+    while left > 0 {
+        left -= 1;
+        let first = value_of(alloc, &parts[left])?;
+        made = joined(first, made)?;
     }
-}
-
-#[cycle(evaluation)]
-fn chosen(alloc: Global, condition: &Expr, x: &Expr, y: &Expr) -> Result<Worth, AllocError>
-    ensures { IfOk result (λ made. made ≡ values.choose_worth (values.value_of condition.now) (values.value_of x.now) (values.value_of y.now)) }
-{
-    let condition = value_of(alloc, condition)?;
-    let x = value_of(alloc, x)?;
-    let y = value_of(alloc, y)?;
-    Ok(choose_worth(condition, x, y))
+    Ok(made)
 }
 
 /// What an expression is worth that is made of literals, in two's complement.
@@ -83,7 +73,12 @@ pub fn value_of(alloc: Global, core: &Expr) -> Result<Worth, AllocError>
             let y = value_of(alloc, y.get())?;
             Ok(choose_worth(x, Worth::Truth(true), y))
         }
-        Expr::Choose(condition, x, y) => chosen(alloc, condition.get(), x.get(), y.get()),
+        Expr::Choose(condition, x, y) => {
+            let condition = value_of(alloc, condition.get())?;
+            let x = value_of(alloc, x.get())?;
+            let y = value_of(alloc, y.get())?;
+            Ok(choose_worth(condition, x, y))
+        }
         Expr::Convert(x) => Ok(convert_worth(value_of(alloc, x.get())?)),
         Expr::Vector(term, parts) => {
             vector_worth(alloc, is_unsigned_type(term), parts.as_slice())

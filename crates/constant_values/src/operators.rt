@@ -90,6 +90,7 @@ fn truth_test(op: BinaryOp, x: bool, y: bool) -> Worth
 }
 
 /// What has been made so far, and what the operator makes of the other words.
+#[tactic(auto, using(std::proofs::lemmas::List::append_assoc))]
 fn words_behind(
     op: BinaryOp,
     is_unsigned: bool,
@@ -99,16 +100,19 @@ fn words_behind(
 ) -> Result<Option<Items<u32>>, AllocError>
     ensures { IfOk result (λ made. made ≡ option_map (λ words. done ++ words) (values.words_op op is_unsigned xs.now ys.now)) }
 {
-    match (xs, ys) {
-        ([x, xs @ ..], [y, ys @ ..]) => match word_op(op, is_unsigned, *x, *y) {
-            Some(word) => {
-                let mut done = done;
-                done.push(word)?;
-                words_behind(op, is_unsigned, done, xs, ys)
-            }
-            None => Ok(None),
-        },
-        _ => Ok(Some(done)),
+    let [x, xs @ ..] = xs else {
+        return Ok(Some(done));
+    };
+    let [y, ys @ ..] = ys else {
+        return Ok(Some(done));
+    };
+    match word_op(op, is_unsigned, *x, *y) {
+        Some(word) => {
+            let mut done = done;
+            done.push(word)?;
+            words_behind(op, is_unsigned, done, xs, ys)
+        }
+        None => Ok(None),
     }
 }
 
@@ -169,6 +173,7 @@ pub fn binary_worth(alloc: Global, op: BinaryOp, x: Worth, y: Worth) -> Result<W
     }
 }
 
+#[tactic(auto, using(std::proofs::lemmas::List::append_assoc))]
 fn negated(done: Items<u32>, words: &[u32]) -> Result<Items<u32>, AllocError>
     ensures { IfOk result (λ made. made ≡ done ++ map word_negate words.now) }
 {
@@ -182,6 +187,7 @@ fn negated(done: Items<u32>, words: &[u32]) -> Result<Items<u32>, AllocError>
     }
 }
 
+#[tactic(auto, using(std::proofs::lemmas::List::append_assoc))]
 fn complemented(done: Items<u32>, words: &[u32]) -> Result<Items<u32>, AllocError>
     ensures { IfOk result (λ made. made ≡ done ++ map word_not words.now) }
 {

@@ -1,6 +1,6 @@
 // Values that are made of the words of another.
 
-ghost use Rattle.std.specs.Prelude.{◌≡◌, ◌++◌, [], ◌∷◌, IfOk};
+ghost use Rattle.std.specs.Prelude.{◌≡◌, ◌++◌, [], ◌∷◌, false, IfOk};
 ghost use Rattle.std.specs.List.{repeat};
 ghost use Rattle.std.specs.Option.{option_map};
 ghost use Rattle.type_terms.specs.Values as values;
@@ -22,6 +22,7 @@ pub fn convert_worth(x: Worth) -> Worth
     }
 }
 
+#[tactic(auto, using(std::proofs::lemmas::List::append_assoc, crate::proofs::Repeats::one_more))]
 fn repeated(done: Items<u32>, word: u32, count: u8) -> Result<Items<u32>, AllocError>
     ensures { IfOk result (λ made. made ≡ done ++ repeat count (word ∷ [])) }
 {
@@ -39,10 +40,7 @@ pub fn repeat_worth(alloc: Global, count: u8, x: Worth) -> Result<Worth, AllocEr
 {
     match x {
         Worth::Words(is_unsigned, words) => match words.as_slice() {
-            [word] => Ok(Worth::Words(
-                is_unsigned,
-                repeated(Items::new(alloc), *word, count)?,
-            )),
+            [word] => Ok(Worth::Words(is_unsigned, repeated(Items::new(alloc), *word, count)?)),
             _ => Ok(Worth::Unknown),
         },
         Worth::Undefined => Ok(Worth::Undefined),
@@ -51,6 +49,7 @@ pub fn repeat_worth(alloc: Global, count: u8, x: Worth) -> Result<Worth, AllocEr
 }
 
 /// What has been picked so far, and the words of the other numbers.
+#[tactic(auto, using(std::proofs::lemmas::List::append_assoc))]
 fn picked_behind(
     done: Items<u32>,
     words: &[u32],

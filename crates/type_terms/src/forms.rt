@@ -137,12 +137,7 @@ pub fn with_sign(
 }
 
 /// A single number repeated where another size is wanted.
-pub fn with_size(
-    alloc: Global,
-    size: u8,
-    number: Numeric,
-    core: Expr,
-) -> Result<Expr, AllocError>
+pub fn with_size(alloc: Global, size: u8, number: Numeric, core: Expr) -> Result<Expr, AllocError>
     ensures { IfOk result (λ sized. sized ≡ forms.with_size size number core) }
 {
     if number.size == size {

@@ -5,6 +5,7 @@ mod copies;
 mod elements;
 mod forms;
 mod kinds;
+mod laws;
 mod numbers;
 mod sameness;
 mod sizes;
@@ -17,6 +18,7 @@ pub use forms::{
     truth_expr, typed, value, with_sign, with_size,
 };
 pub use kinds::{is_bool, is_read_only, is_resource, is_void, struct_of};
+pub use laws::{numbers_have_their_types, sameness_is_equality};
 pub use numbers::{is_uint, is_whole, number_type, numeric_of, scalar_of, type_of_numeric};
 pub use sameness::{same, same_arg, same_ref, same_scalar, same_value};
 pub use sizes::has_fewer_nodes;

@@ -18,14 +18,22 @@ pub fn is_uint(scalar: Scalar) -> bool
 pub fn scalar_of(is_unsigned: bool) -> Scalar
     ensures { result ≡ types.scalar_of is_unsigned }
 {
-    if is_unsigned { Scalar::Uint } else { Scalar::Int }
+    if is_unsigned {
+        Scalar::Uint
+    } else {
+        Scalar::Int
+    }
 }
 
 /// `uint` or `int`.
 pub fn number_type(is_unsigned: bool) -> TypeTerm
     ensures { result ≡ types.number_type is_unsigned }
 {
-    if is_unsigned { TypeTerm::Uint } else { TypeTerm::Int }
+    if is_unsigned {
+        TypeTerm::Uint
+    } else {
+        TypeTerm::Int
+    }
 }
 
 /// The sign and the size of `int`, `uint` or a vector of them.
