@@ -1,0 +1,3 @@
+mod Sames
+mod Selves
+mod Sized

@@ -7,7 +7,7 @@ use Rattle.slang_core.specs.declared.types.Scalar.{Scalar}
 use Rattle.slang_core.specs.declared.types.Scalar.TheVariants as s
 use Rattle.slang_core.specs.declared.types.TypeTerm.{TypeTerm, fold-TypeTerm, out-TypeTerm}
 use Rattle.slang_core.specs.declared.types.TypeTerm.TheVariants as ty
-use Rattle.slang_core.specs.declared.types.Arg.{Arg, out-Arg}
+use Rattle.slang_core.specs.declared.types.Arg.{Arg, fold-Arg, out-Arg}
 use Rattle.slang_core.specs.declared.types.Arg.TheOpen.{TypeTerm-F, Arg-F}
 use Rattle.slang_core.specs.declared.types.Arg.TheOpen as t
 use Rattle.type_terms.specs.declared.typings.Numeric.{Numeric}
@@ -130,6 +130,9 @@ arg_nodes (t.Fixed n) = 0
 abbrev pub nodes : TypeTerm → ℕ
 nodes = fold-TypeTerm ℕ ℕ arg_nodes term_nodes
 
+abbrev pub nodes_of_arg : Arg → ℕ
+nodes_of_arg = fold-Arg ℕ ℕ arg_nodes term_nodes
+
 -- ---- whether two types are one
 
 abbrev pub same_ref : Ref → Ref → Bool
@@ -179,3 +182,6 @@ same_arg_step f x = same_arg_layer f (out-Arg x)
 
 abbrev pub same : TypeTerm → TypeTerm → Bool
 same = fold-TypeTerm (Arg → Bool) (TypeTerm → Bool) same_arg_step same_term
+
+abbrev pub same_arg : Arg → Arg → Bool
+same_arg = fold-Arg (Arg → Bool) (TypeTerm → Bool) same_arg_step same_term
