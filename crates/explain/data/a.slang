@@ -1,0 +1,2 @@
+// a text
+	int x y;

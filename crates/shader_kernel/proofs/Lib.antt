@@ -1,0 +1,4 @@
+pub mod Steady
+pub mod Bodies
+pub mod Programs
+pub mod Names
