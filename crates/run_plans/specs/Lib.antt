@@ -9,3 +9,4 @@ pub mod Plans
 pub mod Values
 pub mod Buffers
 pub mod Whole
+pub mod Grounds

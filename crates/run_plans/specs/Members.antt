@@ -1,5 +1,5 @@
 -- Where the members of structs stand.
-use Rattle.std.specs.Prelude.{◌≡◌, ℕ, nat_eq, List, [], drop, take, Option, Some, None, slice_get}
+use Rattle.std.specs.Prelude.{◌≡◌, ℕ, ◌^◌, ◌<◌, nat_eq, List, [], drop, take, length, Option, Some, None, slice_get}
 use Rattle.std.specs.Global.{Vec}
 use Rattle.std.specs.HashMap.{HashMap, get}
 use Rattle.spirv_words.specs.declared.images.Instruction.{Instruction}
@@ -18,6 +18,8 @@ row_in known t = items_in (get nat_eq known t)
 -- the first of these members stand one behind the other
 pub record IsRow (code : List Instruction) (members row : List ℕ) : Type 0 where
   pub tells : (n place : ℕ) → slice_get row n ≡ Some place → place ≡ total_width code (take n members)
+  -- a member has a place where 32 bits tell it
+  pub many : (n : ℕ) → n < length members → total_width code (take n members) < 2 ^ 32 → (place : ℕ) × (slice_get row n ≡ Some place)
 
 -- the same of the members of a struct
 abbrev pub IsRowOf : List Instruction → ℕ → List ℕ → Type 0
