@@ -1,5 +1,5 @@
 -- The buffers of an image: each variable's is listed, and what is listed is one's.
-use Rattle.std.proofs.Common.{◌≡◌, ℕ, zero, suc, ◌+◌, ◌/◌, ◌⊎◌, inl, inr, Bool, true, false, ◌&&◌, ◌||◌, cond, List, [], ◌∷◌, slice_get, Some, None, refl, sym, ap, ◌∙◌, subst, arith}
+use Rattle.std.proofs.Common.{◌≡◌, ℕ, zero, suc, ◌+◌, ◌/◌, ◌^◌, ◌<◌, ◌⊎◌, inl, inr, Bool, true, false, ◌&&◌, ◌||◌, cond, List, [], ◌∷◌, length, ◌≤◌, slice_get, Some, None, refl, sym, ap, ◌∙◌, subst, arith}
 use Rattle.std.specs.Prelude.{nat_eq}
 use Rattle.std.specs.List.{list_any}
 use Rattle.std.specs.List.Sorted.{IsPermutation}
@@ -11,16 +11,18 @@ use Rattle.spirv_words.specs.declared.opcodes.Op.TheVariants.{Variable}
 use Rattle.spirv_words.specs.declared.images.Instruction.{Instruction}
 use Rattle.spirv_words.specs.Machine.{second_of}
 use Rattle.image_lookup.specs.Lookups.{operand, operands}
-use Rattle.image_declarations.specs.Holdings.{extent}
+use Rattle.image_declarations.specs.Holdings.{extent, is_reached}
 use Rattle.image_operands.specs.Marks.{is_buffer, is_variable}
 use Rattle.image_facts.specs.Operands.{type_id}
 use Rattle.image_facts.proofs.Values.{holder}
 use Rattle.image_facts.proofs.Globals.{buffer-stands}
+use Rattle.image_facts.proofs.Buffers.{buffer-type-reached}
 use Rattle.image_facts.proofs.Reaching.{struct-kind, reach-extent}
 use Rattle.run_plans.specs.declared.base.Bound.{Bound}
 use Rattle.run_plans.specs.Plans.{needs, needed_words}
 use Rattle.run_plans.specs.Walks.{IsOfValid}
-use Rattle.run_plans.specs.Buffers.{bound_of, bound_if, listed, bounds_at, bounds_in, IsBefore, same_bound, AreBounds}
+use Rattle.run_plans.specs.Grounds.{AreNear}
+use Rattle.run_plans.specs.Buffers.{bound_of, bound_if, listed, bounds_at, bounds_in, Ascends, same_bound, AreBounds}
 use Rattle.run_plans.proofs.Placed.{some_same}
 
 -- ---- how many words a buffer needs
@@ -36,6 +38,13 @@ needs_is code v x b = subst (λ (c : List Instruction). is_buffer c x ≡ true �
         let t = operand v.image.instructions (type_id v.image.instructions x) 2 in
         ap needed_words s.pointee
         ∙ ap (λ n. (n + 3) / 4) (reach-extent v.image v.valid t s.form (struct-kind v.image v.valid t s.struct) s.pointee)
+
+-- the struct of a buffer is reached
+pub buffer_end : (code : List Instruction) → IsOfValid code → AreNear code → (x : ℕ) → is_buffer code x ≡ true
+    → extent code (operand code (type_id code x) 2) < 2 ^ 32
+buffer_end code v near x b =
+    near.each (operand code (type_id code x) 2)
+    (subst (λ (c : List Instruction). is_buffer c x ≡ true → is_reached c (operand c (type_id c x) 2) ≡ true) v.same (buffer-type-reached v.image v.valid x) b)
 
 -- ---- bools
 
@@ -135,9 +144,10 @@ each_in code x b =
 
 -- the same once they are sorted
 pub bounds_are : (code : List Instruction) (found sorted : List Bound) → found ≡ bounds_in code code → IsPermutation found sorted
-    → ((n : ℕ) (a b : Bound) → slice_get sorted n ≡ Some a → slice_get sorted (suc n) ≡ Some b → IsBefore a b) → AreBounds code sorted
-bounds_are code found sorted e perm up = record {
+    → Ascends sorted → length sorted ≤ length code → AreBounds code sorted
+bounds_are code found sorted e perm up few = record {
   ascending = up;
+  few = few;
   each = λ x b. sym (list_any-IsPermutation (same_bound (bound_of code x)) found sorted perm)
       ∙ ap (list_any (same_bound (bound_of code x))) e ∙ each_in code x b;
   of = λ p h. of_in code p code (sym (ap (list_any p) e) ∙ list_any-IsPermutation p found sorted perm ∙ h);

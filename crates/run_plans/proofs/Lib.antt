@@ -8,3 +8,6 @@ pub mod Ordered
 pub mod Written
 pub mod Acting
 pub mod Rows
+pub mod Ascending
+pub mod Making
+pub mod Searched

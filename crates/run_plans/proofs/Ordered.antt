@@ -1,9 +1,9 @@
 -- Buffers that ascend have numbers.
-use Rattle.std.proofs.Common.{◌≡◌, ℕ, zero, suc, ◌<◌, inl, inr, Bool, true, false, ◌&&◌, ◌||◌, cond, List, [], ◌∷◌, map, slice_get, Option, Some, None, refl, sym, ap, ◌∙◌, arith}
+use Rattle.std.proofs.Common.{◌≡◌, ℕ, zero, suc, ◌<◌, inl, inr, Bool, true, false, ◌&&◌, ◌||◌, cond, List, [], ◌∷◌, length, map, slice_get, Option, Some, None, refl, sym, ap, ◌∙◌, arith}
 use Rattle.std.specs.Prelude.{nat_eq}
 use Rattle.std.specs.List.{list_any}
 use Rattle.std.specs.Option.{option_map}
-use Rattle.std.proofs.lemmas.Option.{slice_get-map}
+use Rattle.std.proofs.lemmas.Option.{slice_get-map, slice_get_within}
 use Rattle.std.proofs.lemmas.Bool.{eq-eqb, ne_eqb}
 use Rattle.spirv_words.specs.declared.images.Instruction.{Instruction}
 use Rattle.image_declarations.specs.Decorations.{same_pair}
@@ -44,7 +44,7 @@ self_pair p = ap (λ r. r && nat_eq p.1 p.1) (eq-eqb p.0 p.0 refl) ∙ eq-eqb p.
 abbrev Ascends : List Bound → Type 0
 Ascends bs = (n : ℕ) (a b : Bound) → slice_get bs n ≡ Some a → slice_get bs (suc n) ≡ Some b → IsBefore a b
 
-behind_first : (a c : Bound) (bs : List Bound) (n : ℕ) → Ascends (a ∷ bs) → slice_get bs n ≡ Some c → IsBefore a c
+pub behind_first : (a c : Bound) (bs : List Bound) (n : ℕ) → Ascends (a ∷ bs) → slice_get bs n ≡ Some c → IsBefore a c
 behind_first a c [] n up e = absurd (no_item n c e)
 behind_first a c (b ∷ bs) zero up e = up zero a c refl e
 behind_first a c (b ∷ bs) (suc n) up e =
@@ -86,12 +86,12 @@ passed_at p (a ∷ bs) (suc n) b e h = second (p a) (list_any p bs) (passed_at p
     second true s e = refl
     second false s e = e
 
-abbrev both_of : ℕ → ℕ → ℕ × ℕ
+abbrev pub both_of : ℕ → ℕ → ℕ × ℕ
 both_of s c = (s, c)
 
 module _ (code : List Instruction) (bs : List Bound) (are : AreBounds code bs) where
   -- where the buffer of a variable stands
-  at_variable : (x : ℕ) → is_buffer code x ≡ true → (n : ℕ) × (slice_get bs n ≡ Some (bound_of code x))
+  pub at_variable : (x : ℕ) → is_buffer code x ≡ true → (n : ℕ) × (slice_get bs n ≡ Some (bound_of code x))
   at_variable x b =
       let f = found (same_bound (bound_of code x)) bs (are.each x b) in
       (f.number, f.stands ∙ ap (λ (b : Bound). Some b) (sym (same_is (bound_of code x) f.bound f.passes)))
@@ -132,3 +132,10 @@ module _ (code : List Instruction) (bs : List Bound) (are : AreBounds code bs) w
     where
       pairs : (s t c d : ℕ) → s ≡ t → c ≡ d → both_of s c ≡ both_of t d
       pairs s t c d e f = ap (λ s. both_of s c) e ∙ ap (both_of t) f
+
+  -- the number of a variable's buffer is its place, and no more than there are instructions
+  pub numbered : (x : ℕ) (h : is_buffer code x ≡ true) → number_in (map pair_of bs) (set_of code x, binding_of code x) ≡ (at_variable x h).0
+  numbered x h = let at = at_variable x h in number_is bs at.0 (bound_of code x) are.ascending at.1
+
+  pub number_is_few : (x : ℕ) (h : is_buffer code x ≡ true) → (at_variable x h).0 < length code
+  number_is_few x h = let at = at_variable x h in let l = slice_get_within bs at.0 (bound_of code x) at.1 in omega (arith, are.few)

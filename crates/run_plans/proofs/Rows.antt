@@ -6,15 +6,10 @@ use Rattle.spirv_words.specs.declared.images.Instruction.{Instruction}
 use Rattle.spirv_words.specs.Machine.{if_some}
 use Rattle.flat_values.specs.Flat.{width}
 use Rattle.image_facts.specs.Operands.{shape}
-use Rattle.run_plans.specs.declared.base.Bound.{Bound}
-use Rattle.run_plans.specs.Ground.{pair_of}
-use Rattle.run_plans.specs.Plans.{number_in}
-use Rattle.run_plans.specs.Buffers.{IsPlaceOf, AreBounds}
 use Rattle.run_plans.specs.Walks.{total_width}
 use Rattle.run_plans.specs.Members.{IsRow}
 use Rattle.run_plans.proofs.Placed.{some_same}
 use Rattle.run_plans.proofs.Acting.{get_early, get_last, below_or_last}
-use Rattle.run_plans.proofs.Ordered.{number_is}
 
 -- the places of the first so many members, and where the next one stands
 pub record IsRowTo (code : List Instruction) (members : List ℕ) (n : ℕ) (row : List ℕ) (place : ℕ) : Type 0 where
@@ -70,10 +65,3 @@ module _ (code : List Instruction) where
         ∙ ap (λ m. total_width code (take m ms)) (sym (add-one k));
     tells = row_pushed ms k row now place r e;
   }
-
--- a buffer's number is its place
-pub numbered : (code : List Instruction) (bounds : List Bound) (set binding place : ℕ) → AreBounds code bounds → IsPlaceOf bounds set binding place
-    → place ≡ number_in (map pair_of bounds) (set, binding)
-numbered code bounds set binding place are p =
-    sym (number_is bounds place p.bound are.ascending p.stands)
-    ∙ ap (λ s. number_in (map pair_of bounds) (s, p.bound.binding)) p.set_is ∙ ap (λ b. number_in (map pair_of bounds) (set, b)) p.binding_is

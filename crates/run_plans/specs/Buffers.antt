@@ -1,5 +1,5 @@
 -- The buffers that an image names.
-use Rattle.std.specs.Prelude.{◌≡◌, ◌⊎◌, ℕ, suc, ◌<◌, ◌&&◌, Bool, true, cond, nat_eq, List, [], ◌∷◌, ◌++◌, Option, Some, None, slice_get}
+use Rattle.std.specs.Prelude.{◌≡◌, ◌⊎◌, ℕ, suc, ◌<◌, ◌≤◌, ◌&&◌, Bool, true, cond, nat_eq, List, [], ◌∷◌, ◌++◌, length, Option, Some, None, slice_get}
 use Rattle.std.specs.List.{list_any}
 use Rattle.spirv_words.specs.declared.opcodes.Op.{Op}
 use Rattle.spirv_words.specs.declared.opcodes.Op.TheVariants.{Variable}
@@ -35,15 +35,13 @@ IsBefore a b = (a.set < b.set) ⊎ ((a.set ≡ b.set) × (a.binding < b.binding)
 abbrev pub same_bound : Bound → Bound → Bool
 same_bound a b = nat_eq a.set b.set && (nat_eq a.binding b.binding && nat_eq a.words b.words)
 
--- the buffers of all variables, each before the next
+-- each buffer stands before the next
+abbrev pub Ascends : List Bound → Type 0
+Ascends bounds = (n : ℕ) (a b : Bound) → slice_get bounds n ≡ Some a → slice_get bounds (suc n) ≡ Some b → IsBefore a b
+
+-- the buffers of all variables, each before the next, and no more than there are instructions
 pub record AreBounds (code : List Instruction) (bounds : List Bound) : Type 0 where
-  pub ascending : (n : ℕ) (a b : Bound) → slice_get bounds n ≡ Some a → slice_get bounds (suc n) ≡ Some b → IsBefore a b
+  pub ascending : Ascends bounds
+  pub few : length bounds ≤ length code
   pub each : (x : ℕ) → is_buffer code x ≡ true → list_any (same_bound (bound_of code x)) bounds ≡ true
   pub of : (p : Bound → Bool) → list_any p bounds ≡ true → (x : ℕ) × (is_buffer code x ≡ true) × (p (bound_of code x) ≡ true)
-
--- the buffer with a set and a binding stands there
-pub record IsPlaceOf (bounds : List Bound) (set binding place : ℕ) : Type 0 where
-  pub bound : Bound
-  pub stands : slice_get bounds place ≡ Some bound
-  pub set_is : bound.set ≡ set
-  pub binding_is : bound.binding ≡ binding

@@ -1,5 +1,5 @@
 -- What is known of the ground on which a plan is made: the image is valid, and its numbers fit 32 bits.
-use Rattle.std.specs.Prelude.{◌≡◌, ℕ, ◌^◌, ◌<◌, true, List, Some, length}
+use Rattle.std.specs.Prelude.{◌≡◌, ℕ, ◌^◌, ◌<◌, ◌≤◌, Bool, true, ◌||◌, not, nat_lt, List, [], ◌∷◌, Some, length}
 use Rattle.spirv_words.specs.declared.images.Instruction.{Instruction}
 use Rattle.spirv_words.specs.Machine.{Shape}
 use Rattle.flat_values.specs.Flat.{width}
@@ -22,6 +22,17 @@ pub record AreNarrow (code : List Instruction) : Type 0 where
 -- 32 bits tell the end, in bytes, of each type in a buffer
 pub record AreNear (code : List Instruction) : Type 0 where
   pub each : (t : ℕ) → is_reached code t ≡ true → extent code t < 2 ^ 32
+
+-- the same of the type that operands declare, if a buffer has it
+abbrev pub is_near : List Instruction → List ℕ → Bool
+is_near code [] = true
+is_near code (t ∷ ts) = not (is_reached code t) || nat_lt (extent code t) (2 ^ 32)
+
+-- a type in a buffer ends at 2^32 bytes or behind
+pub record IsFar (code : List Instruction) : Type 0 where
+  pub type_id : ℕ
+  pub reached : is_reached code type_id ≡ true
+  pub far : 2 ^ 32 ≤ extent code type_id
 
 pub record IsGround (g : Ground) : Type 0 where
   pub valid : IsOfValid g.places.code

@@ -17,6 +17,11 @@ use Rattle.run_plans.specs.Ground.{pair_of}
 abbrev pub number_of : List Bound → ℕ → ℕ → ℕ
 number_of bounds set binding = number_in (map pair_of bounds) (set, binding)
 
+-- there are words
+pub record AreTold (o : Option (List ℕ)) : Type 0 where
+  pub words : List ℕ
+  pub are : o ≡ Some words
+
 module _ (code : List Instruction) (L : Rooms) (bounds : List Bound) where
   -- a variable outside of functions is a pointer to a built-in value, or into a buffer
   abbrev pub variable_words : ℕ → ℕ → Option (List ℕ)
@@ -31,6 +36,15 @@ module _ (code : List Instruction) (L : Rooms) (bounds : List Bound) where
   value_words ConstantNull (t ∷ r ∷ []) = cond (is_data code t) (Some (replicate (if_some (shape code t) 0 width) 0)) None
   value_words Variable (t ∷ r ∷ class ∷ []) = variable_words r class
   value_words op os = None
+
+  -- an instruction makes a value that has its words inside of all words
+  pub record IsMade (i : Instruction) : Type 0 where
+    pub id : ℕ
+    pub words : List ℕ
+    pub gives : result_of i.op i.operands ≡ Some id
+    pub are : value_words i.op i.operands ≡ Some words
+    pub as_many : length words ≡ slot_size code id
+    pub inside : L.slot id + length words ≤ L.total
 
   -- the words of what an instruction makes were written where they stand
   pub record IsWritten (i : Instruction) (before now : List ℕ) : Type 0 where

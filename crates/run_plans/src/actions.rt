@@ -118,7 +118,7 @@ fn two_of(
 fn target_of(places: &Ground, label: u32) -> Result<u32, AllocError>
     ensures { IfOk result (λ p. place_of places.now.places.code label 0 ≡ Some p) }
 {
-    word_of(place_of(places, label)?)
+    Ok(word_of(place_of(places, label)?))
 }
 
 fn jump_of(places: &Ground, label: u32) -> Result<Action, AllocError>

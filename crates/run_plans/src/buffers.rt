@@ -1,12 +1,13 @@
 // The buffers that an image names, in order.
 
-ghost use Rattle.std.specs.Prelude.{◌≡◌, ◌++◌, ℕ, suc, true, IfOk, OnOk, Some, slice_get};
+ghost use Rattle.std.specs.Prelude.{◌≡◌, ◌++◌, true, IfOk, OnOk, Some};
 ghost use Rattle.spirv_words.specs.Machine.{or_zero, decoration};
 ghost use Rattle.image_declarations.specs.Decorations.{literal_of};
 ghost use Rattle.image_operands.specs.Marks.{is_buffer};
 ghost use Rattle.run_plans.specs.Plans.{needs};
 ghost use Rattle.run_plans.specs.Walks.{IsOfValid};
-ghost use Rattle.run_plans.specs.Buffers.{bound_of, bound_if, bounds_at, bounds_in, IsBefore, AreBounds};
+ghost use Rattle.run_plans.specs.Buffers.{bound_of, bound_if, bounds_at, bounds_in, AreBounds};
+ghost use Rattle.run_plans.specs.Grounds.{AreNear};
 
 use crate::base::Bound;
 use image_declarations::{Declarations, is_buffer_class};
@@ -36,34 +37,31 @@ pub fn is_buffer(declarations: &Declarations, id: u32) -> bool
 }
 
 /// How many words the buffer of a variable needs.
-fn needed(declarations: &Declarations, id: u32) -> Result<u32, AllocError>
+fn needed(declarations: &Declarations, id: u32) -> u32
     requires valid { IsOfValid declarations.now }
+    requires near { AreNear declarations.now }
     requires buffer { is_buffer declarations.now id ≡ true }
-    ensures { IfOk result (λ n. n ≡ needs declarations.now id) }
+    ensures { result ≡ needs declarations.now id }
 {
     let pointers = declarations.operand(id, 0);
     let end = declarations.extent(declarations.operand(pointers, 2));
-    if end < 0x1_0000_0000 {
-        Ok(((end + 3) / 4) as u32)
-    } else {
-        Err(AllocError)
-    }
+    ((end + 3) / 4) as u32
 }
 
 /// The buffer of a variable, if it is one of a buffer.
-fn bound_if(declarations: &Declarations, id: u32) -> Result<Option<Bound>, AllocError>
+fn bound_if(declarations: &Declarations, id: u32) -> Option<Bound>
     requires valid { IsOfValid declarations.now }
-    ensures { IfOk result (λ bound. bound ≡ bound_if declarations.now id) }
+    requires near { AreNear declarations.now }
+    ensures { result ≡ bound_if declarations.now id }
 {
     if !is_buffer(declarations, id) {
-        return Ok(None);
+        return None;
     }
-    let words = needed(declarations, id)?;
-    Ok(Some(Bound {
+    Some(Bound {
         set: literal_of(declarations, id, 34),
         binding: literal_of(declarations, id, 33),
-        words,
-    }))
+        words: needed(declarations, id),
+    })
 }
 
 /// Adds the buffer of an instruction, if it is the variable of one.
@@ -73,10 +71,11 @@ fn add_bound(
     instruction: &Instruction,
 ) -> Result<(), AllocError>
     requires valid { IsOfValid declarations.now }
+    requires near { AreNear declarations.now }
     ensures { OnOk result (buffers.new.items ≡ buffers.old.items ++ bounds_at declarations.now instruction.now.op instruction.now.operands) }
 {
     match (instruction.op, instruction.operands.as_slice()) {
-        (Op::Variable, [_, id, ..]) => match bound_if(declarations, *id)? {
+        (Op::Variable, [_, id, ..]) => match bound_if(declarations, *id) {
             Some(bound) => buffers.push(bound)?,
             None => {}
         },
@@ -88,6 +87,7 @@ fn add_bound(
 /// The buffers in the order of the instructions.
 fn bounds_of(alloc: Global, declarations: &Declarations) -> Result<Vec<Bound>, AllocError>
     requires valid { IsOfValid declarations.now }
+    requires near { AreNear declarations.now }
     ensures { IfOk result (λ buffers. buffers.items ≡ bounds_in declarations.now declarations.now) }
 {
     let mut buffers = Vec::new(alloc);
@@ -97,34 +97,13 @@ fn bounds_of(alloc: Global, declarations: &Declarations) -> Result<Vec<Bound>, A
     Ok(buffers)
 }
 
-fn is_before(one: Bound, other: Bound) -> bool
-    ensures { result ≡ true → IsBefore one other }
-{
-    one.set < other.set || one.set == other.set && one.binding < other.binding
-}
-
-/// Whether each buffer stands before the next.
-fn are_ascending(buffers: &[Bound]) -> bool
-    ensures { result ≡ true → (n : ℕ) (a b : Bound) → slice_get buffers.now n ≡ Some a → slice_get buffers.now (suc n) ≡ Some b → IsBefore a b }
-{
-    for n in 1..buffers.len() {
-        if !is_before(buffers[n - 1], buffers[n]) {
-            return false;
-        }
-    }
-    true
-}
-
-/// The buffers of an image, ascending by set and binding. It errs for want of memory, also where 32 bits do not tell the bytes
-/// that a buffer needs; no two buffers of a valid image have one set and binding.
+/// The buffers of an image, ascending by set and binding; no two buffers of a valid image have one set and binding.
 pub fn buffers_of(alloc: Global, declarations: &Declarations) -> Result<Items<Bound>, AllocError>
     requires valid { IsOfValid declarations.now }
+    requires near { AreNear declarations.now }
     ensures { IfOk result (AreBounds declarations.now) }
 {
     let mut buffers = bounds_of(alloc, declarations)?;
     buffers.sort_unstable();
-    if !are_ascending(buffers.as_slice()) {
-        return Err(AllocError);
-    }
     Ok(Items::from_vec(buffers))
 }

@@ -1,6 +1,6 @@
 // Calls, returns, and places that a run goes to.
 
-ghost use Rattle.std.specs.Prelude.{◌≡◌, ◌+◌, ℕ, [], IfOk, slice_get, Some, length};
+ghost use Rattle.std.specs.Prelude.{◌≡◌, ◌+◌, ◌^◌, ◌<◌, ℕ, [], IfOk, slice_get, Some, length};
 ghost use Rattle.spirv_words.specs.Machine.{second_of, place_of};
 ghost use Rattle.run_plans.specs.Ground.{rooms_of};
 ghost use Rattle.run_plans.specs.Actions.{passed, call_of, is_entry_number, return_of, give_back_of};
@@ -15,13 +15,11 @@ use sqlite_items::Items;
 use std::alloc::{AllocError, Global};
 
 /// A number of an instruction, as a word.
-pub fn word_of(number: usize) -> Result<u32, AllocError>
-    ensures { IfOk result (λ n. n ≡ number) }
+pub fn word_of(number: usize) -> u32
+    requires { number < 2 ^ 32 }
+    ensures { result ≡ number }
 {
-    match u32::try_from(number) {
-        Ok(word) => Ok(word),
-        Err(_) => Err(AllocError),
-    }
+    number as u32
 }
 
 /// The instruction behind another.
@@ -91,7 +89,7 @@ pub fn call_of(
     let first = behind(place_of(places, function)?)?;
     let parts = passed(alloc, places, arguments, first)?;
     let place = match first.checked_add(arguments.len()) {
-        Some(place) => word_of(place)?,
+        Some(place) => word_of(place),
         None => return Err(AllocError),
     };
     Ok(Action::Call {
@@ -100,7 +98,7 @@ pub fn call_of(
         first: places.rooms(first),
         count: places.rooms_count(first),
         frame: places.frame(first),
-        back: word_of(behind(number)?)?,
+        back: word_of(behind(number)?),
         to: places.slot(to),
     })
 }

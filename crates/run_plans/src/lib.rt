@@ -7,6 +7,7 @@ mod buffers;
 mod calls;
 mod chains;
 mod composites;
+mod ends;
 mod kinds;
 mod members;
 mod parts;

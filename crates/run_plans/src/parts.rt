@@ -6,6 +6,7 @@ ghost use Rattle.flat_values.specs.Flat.{width};
 ghost use Rattle.image_lookup.specs.Lookups.{operand, operands};
 ghost use Rattle.image_facts.specs.Operands.{shape};
 ghost use Rattle.run_rooms.specs.Rooms.{size_of, slot_size};
+ghost use Rattle.run_plans.specs.Grounds.{IsGround};
 ghost use Rattle.run_plans.specs.Members.{HasRows};
 ghost use Rattle.run_plans.specs.Walks.{total_width, IsMember, IsPart, IsOfValid};
 
@@ -23,12 +24,13 @@ pub struct Part {
 }
 
 /// How many words the values of a type have.
-pub fn width_of(places: &Ground, type_id: u32) -> Result<u32, AllocError>
-    ensures { IfOk result (λ n. n ≡ if_some (shape places.now.places.code type_id) 0 width) }
+pub fn width_of(places: &Ground, type_id: u32) -> u32
+    requires ground { IsGround places.now }
+    ensures { result ≡ if_some (shape places.now.places.code type_id) 0 width }
 {
     match places.places.width_of(type_id) {
-        Some(width) => Ok(width),
-        None => Err(AllocError),
+        Some(width) => width,
+        None => unreachable!(),
     }
 }
 
@@ -109,7 +111,7 @@ fn element(places: &Ground, type_id: u32, number: u32) -> Result<Part, AllocErro
         × (part.place ≡ number * if_some (shape places.now.places.code (operand places.now.places.code type_id 1)) 0 width)) }
 {
     let of = places.declarations().operand(type_id, 1);
-    let place = product(number, width_of(places, of)?)?;
+    let place = product(number, width_of(places, of))?;
     Ok(Part { type_id: of, place })
 }
 

@@ -12,6 +12,7 @@ ghost use Rattle.run_plans.specs.Whole.{IsPlan};
 use crate::actions::actions_of;
 use crate::base::{Bound, Ground};
 use crate::buffers::buffers_of;
+use crate::ends::are_near;
 use crate::members::rows_of;
 use crate::words::first_words;
 use image_declarations::Declarations;

@@ -76,7 +76,7 @@ fn stride_of(
     if in_buffer {
         Ok(in_words(bytes))
     } else {
-        Ok(Some(width_of(places, of)?))
+        Ok(Some(width_of(places, of)))
     }
 }
 
