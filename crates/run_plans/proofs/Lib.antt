@@ -11,3 +11,4 @@ pub mod Rows
 pub mod Ascending
 pub mod Making
 pub mod Searched
+pub mod Reached

@@ -1,10 +1,7 @@
 // Where the members of structs stand: all members of a struct are added up once.
 
-ghost use Rattle.std.specs.Prelude.{◌≡◌, ◌+◌, ℕ, nat_eq, cond, IfOk, IfSome, OnOk};
-ghost use Rattle.spirv_words.specs.Machine.{if_some};
-ghost use Rattle.flat_values.specs.Flat.{width};
-ghost use Rattle.image_facts.specs.Operands.{shape};
-ghost use Rattle.run_plans.specs.Members.{row_in, IsRow, IsRowOf, AreRows};
+ghost use Rattle.std.specs.Prelude.{◌≡◌, ◌+◌, ℕ, nat_eq, cond, IfOk, OnOk, Some, slice_get};
+ghost use Rattle.run_plans.specs.Members.{row_in, IsBehindIf, IsRow, IsRowOf, IsFull, IsFullOf, AreRows, AreRowsTo};
 
 use run_rooms::Places;
 use spirv_words::{Instruction, Op};
@@ -13,7 +10,7 @@ use std::collections::HashMap;
 
 /// The place behind a member of a type, if 32 bits tell it.
 fn behind(places: &Places, place: u32, type_id: u32) -> Option<u32>
-    ensures { IfSome result (λ n. n ≡ place + if_some (shape places.now.code type_id) 0 width) }
+    ensures { IsBehindIf places.now.code place type_id result }
 {
     match places.width_of(type_id) {
         Some(width) => place.checked_add(width),
@@ -23,7 +20,8 @@ fn behind(places: &Places, place: u32, type_id: u32) -> Option<u32>
 
 /// The places of members of these types, as far as 32 bits tell them.
 fn row_of(alloc: Global, places: &Places, types: &[u32]) -> Result<Vec<u32>, AllocError>
-    ensures { IfOk result (λ row. IsRow places.now.code types.now row.items) }
+    ensures row { IfOk result (λ row. IsRow places.now.code types.now row.items) }
+    ensures full { IfOk result (λ row. IsFull places.now.code types.now row.items) }
 {
     let mut row = Vec::new(alloc);
     let mut place: u32 = 0;
@@ -39,11 +37,12 @@ fn row_of(alloc: Global, places: &Places, types: &[u32]) -> Result<Vec<u32>, All
 
 /// The places of a struct's members, as far as 32 bits tell them.
 fn row_of_type(alloc: Global, places: &Places, type_id: u32) -> Result<Vec<u32>, AllocError>
-    ensures { IfOk result (λ row. IsRowOf places.now.code type_id row.items) }
+    ensures row { IfOk result (λ row. IsRowOf places.now.code type_id row.items) }
+    ensures full { IfOk result (λ row. IsFullOf places.now.code type_id row.items) }
 {
     match places.declarations().operands(type_id) {
         [_, members @ ..] => row_of(alloc, places, members),
-        _ => Err(AllocError),
+        _ => Ok(Vec::new(alloc)),
     }
 }
 
@@ -54,8 +53,8 @@ fn add_row(
     known: &mut HashMap<u32, Vec<u32>>,
     instruction: &Instruction,
 ) -> Result<(), AllocError>
-    requires { AreRows places.now.code known.old }
-    ensures { OnOk result (AreRows places.now.code known.new) }
+    ensures { (n : ℕ) → slice_get places.now.code n ≡ Some instruction.now → AreRowsTo places.now.code n known.old
+        → OnOk result (AreRowsTo places.now.code (n + 1) known.new) }
 {
     match (instruction.op, instruction.operands.as_slice()) {
         (Op::TypeStruct, [id, ..]) => {
