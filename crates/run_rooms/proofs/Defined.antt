@@ -86,3 +86,8 @@ function_of-within code (suc k) = under-within (op_at code k) k (function_of cod
 pub place-within : (code : List Instruction) (x p : ℕ) → place_of code x 0 ≡ Some p → p < length code
 unfolding is-placed
 place-within code x p h = let a = is-placed code x p h in slice_get_within code p a.instruction a.stands
+
+-- two ids with one place are one
+pub one-placed : (code : List Instruction) (x y p : ℕ) → place_of code x 0 ≡ Some p → place_of code y 0 ≡ Some p → x ≡ y
+unfolding is-placed
+one-placed code x y p h g = placed-apart code x y (is-placed code x p h) (is-placed code y p g) refl

@@ -4,3 +4,4 @@ pub mod Sums
 pub mod Apart
 pub mod Growing
 pub mod Whole
+pub mod Cycles

@@ -1,6 +1,9 @@
+pub mod Valid
 pub mod Rooms
 pub mod Widths
 pub mod Sums
 pub mod Layout
+pub mod Needs
+pub mod Calls
 pub mod Tables
 pub mod Inside

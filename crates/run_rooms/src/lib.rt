@@ -2,6 +2,7 @@
 #![tactic(auto)]
 
 mod calls;
+mod laws;
 mod offsets;
 mod order;
 mod parts;
