@@ -12,3 +12,5 @@ pub mod Ascending
 pub mod Making
 pub mod Searched
 pub mod Reached
+pub mod Widths
+pub mod Rooms

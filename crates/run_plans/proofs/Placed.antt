@@ -83,14 +83,3 @@ module _ (code : List Instruction) where
       let at = member_at_number t 0 (drop 1 (operands code t)) f.fields number part f.members m.type in
       subst (λ (s : Shape). IsPartOf code s number part place) whole
       (record { form = at.form; is = at.is; at = λ from. at.at from ∙ ap (λ n. At (from + n) at.form) (sym m.behind) })
-
-  pub repeated_parts : {E : Type 0} (t number count stride : ℕ) (r : Result Part E) → IsRepeated code t count stride → number < count
-      → IfOk r (λ part. (part.type_id ≡ operand code t 1) × (part.place ≡ number * if_some (shape code (operand code t 1)) 0 width))
-      → IfOk r (λ part. IsPart code t number part.type_id part.place)
-  repeated_parts t number count stride (Ok part) is lt h = repeated_part t number count stride part.type_id part.place is lt h.0 h.1
-  repeated_parts t number count stride (Err e) is lt h = tt
-
-  pub member_parts : {E : Type 0} (t number : ℕ) (r : Result Part E) → IsFields code t → IfOk r (λ part. IsMember code t number part.type_id part.place)
-      → IfOk r (λ part. IsPart code t number part.type_id part.place)
-  member_parts t number (Ok part) f h = member_part t number part.type_id part.place f h
-  member_parts t number (Err e) f h = tt

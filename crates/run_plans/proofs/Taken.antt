@@ -1,13 +1,15 @@
 -- Paths into composites, part by part.
-use Rattle.std.proofs.Common.{◌≡◌, ℕ, ◌+◌, List, [], ◌∷◌, Option, Some, sym, ap, ◌∙◌, arith}
+use Rattle.std.proofs.Common.{◌≡◌, ℕ, ◌+◌, List, [], ◌∷◌, Option, Some, None, refl, sym, ap, ◌∙◌, arith}
 use Rattle.spirv_words.specs.declared.images.Instruction.{Instruction}
 use Rattle.spirv_words.specs.Machine.{Shape, if_some}
 use Rattle.flat_values.specs.Pieces.{Piece, piece, then_piece}
 use Rattle.run_actions.specs.declared.actions.Action.TheVariants.{Copy, Never}
+use Rattle.image_lookup.specs.Lookups.{sort}
+use Rattle.image_operands.specs.Composites.{literal_part_at, literal_part_by, extract_end}
 use Rattle.image_facts.specs.Operands.{shape, type_id}
 use Rattle.run_rooms.specs.Rooms.{Rooms, size_of}
 use Rattle.run_plans.specs.Actions.{extract_by, extract_of}
-use Rattle.run_plans.specs.Walks.{HasShape, IsPart, IsPath, IsPathOf, IsOnPath}
+use Rattle.run_plans.specs.Walks.{HasShape, IsPart, IsPath, IsPathOf, IsOnPath, IsThere}
 
 none_more : (k : ℕ) → k + 0 ≡ k
 none_more k = omega arith
@@ -42,3 +44,27 @@ extract_is code L t to composite part place from path h p e =
     sym (ap (λ (o : Option Shape). if_some o Never (λ s. extract_by code L (piece s path (L.slot composite)) to (size_of code t))) h.1
     ∙ ap (λ (q : Piece). extract_by code L q to (size_of code t)) (q.at (L.slot composite))
     ∙ ap (λ from. Copy (record { from = from; to = L.slot to; count = size_of code t })) (sym e))
+
+-- ---- where paths of numbers lead
+
+by_sort : (code : List Instruction) (t n : ℕ) → literal_part_at code t n ≡ literal_part_by code (sort code t) t n
+unfolding literal_part_at
+by_sort code t n = refl
+
+-- the first number of a path leads to a part
+pub path_there : (code : List Instruction) (t n end : ℕ) (ns : List ℕ) → extract_end code t (n ∷ ns) ≡ Some end
+    → IsThere (literal_part_by code (sort code t) t n)
+path_there code t n end ns e = by (literal_part_at code t n) (by_sort code t n) e
+  where
+    by : (o : Option ℕ) → o ≡ literal_part_by code (sort code t) t n → if_some o None (λ part. extract_end code part ns) ≡ Some end
+        → IsThere (literal_part_by code (sort code t) t n)
+    by None f e = absurd (never e)
+      where
+        never : None ≡ Some end → ⊥
+        never e = cc
+    by (Some part) f e = record { it = part; is = sym f }
+
+-- and the rest leads on from there
+pub path_on : (code : List Instruction) (t n part : ℕ) (ns : List ℕ) → literal_part_by code (sort code t) t n ≡ Some part
+    → extract_end code t (n ∷ ns) ≡ extract_end code part ns
+path_on code t n part ns e = ap (λ (o : Option ℕ). if_some o None (λ part. extract_end code part ns)) (by_sort code t n ∙ e)

@@ -1,5 +1,5 @@
 -- The steps of access chains, taken by types.
-use Rattle.std.specs.Prelude.{◌≡◌, ◌≢◌, ℕ, ◌+◌, ◌/◌, ◌%◌, Bool, true, false, List, ◌∷◌, ◌++◌, Option, Some, None}
+use Rattle.std.specs.Prelude.{◌≡◌, ◌≢◌, ℕ, ◌+◌, ◌/◌, ◌%◌, ◌^◌, min, Bool, true, false, List, [], ◌∷◌, ◌++◌, Option, Some, None}
 use Rattle.spirv_words.specs.declared.images.Instruction.{Instruction}
 use Rattle.spirv_words.specs.Machine.{Shape, if_some}
 use Rattle.spirv_words.specs.Runs.{signed}
@@ -27,6 +27,15 @@ abbrev pub type_behind : Step → ℕ
 type_behind (Member offset type) = type
 type_behind (Element index type) = type
 
+-- how far a step leads by itself, and its step by a word
+abbrev pub offset_in : Step → ℕ
+offset_in (Member offset type) = offset
+offset_in (Element index type) = 0
+
+abbrev pub index_in : Step → List Index
+index_in (Member offset type) = []
+index_in (Element index type) = index ∷ []
+
 -- a step leads where an index leads in a shape
 pub record IsStepOf (code : List Instruction) (L : Rooms) (in_buffer : Bool) (s : Shape) (index : ℕ) (step : Step) : Type 0 where
   pub form : Shape
@@ -47,6 +56,10 @@ pub record IsElementStep (code : List Instruction) (L : Rooms) (in_buffer : Bool
   pub stride : ℕ
   pub far : IsStrideOf code in_buffer of bytes stride
   pub is : step ≡ Element (record { slot = L.slot id; extent = extent; stride = stride; signed = signed code (globals_of code) id }) of
+
+-- how far something leads, of which 2^32 stands for all that is more
+abbrev pub IsCut : ℕ → ℕ → Type 0
+IsCut far cut = cut ≡ min far (2 ^ 32)
 
 -- behind an offset and steps
 abbrev pub behind : ℕ → List Index → Planned → Planned
@@ -96,6 +109,12 @@ IsStepIf code L in_buffer t index None = IsNoStep code L in_buffer t index
 pub record IsNoWalk (code : List Instruction) (L : Rooms) (in_buffer : Bool) (t : ℕ) (is : List ℕ) : Type 0 where
   pub ends : (s : Shape) → shape code t ≡ Some s → planned in_buffer s (items code L s is) ≡ NoPlan
 
+-- indices lead by these steps, and by an offset that is told as far as 2^32
+pub record IsWalkFar (code : List Instruction) (L : Rooms) (in_buffer : Bool) (t : ℕ) (is : List ℕ) (walk : Walk) : Type 0 where
+  pub far : ℕ
+  pub cut : IsCut far walk.offset
+  pub leads : IsWalk code L in_buffer t is far walk.steps
+
 abbrev pub IsWalkIf : List Instruction → Rooms → Bool → ℕ → List ℕ → Option Walk → Type 0
-IsWalkIf code L in_buffer t is (Some walk) = IsWalk code L in_buffer t is walk.offset walk.steps
+IsWalkIf code L in_buffer t is (Some walk) = IsWalkFar code L in_buffer t is walk
 IsWalkIf code L in_buffer t is None = IsNoWalk code L in_buffer t is

@@ -1,5 +1,5 @@
 -- How types are walked along with their shapes.
-use Rattle.std.specs.Prelude.{◌≡◌, ℕ, ◌+◌, List, [], ◌∷◌, Some, drop, slice_get, take}
+use Rattle.std.specs.Prelude.{◌≡◌, ℕ, ◌+◌, List, [], ◌∷◌, Option, Some, drop, slice_get, take}
 use Rattle.spirv_words.specs.declared.images.Instruction.{Instruction}
 use Rattle.spirv_words.specs.declared.images.Image.{Image}
 use Rattle.spirv_words.specs.Machine.{Shape, if_some}
@@ -15,10 +15,19 @@ pub record IsOfValid (code : List Instruction) : Type 0 where
   pub valid : Valid image
   pub same : image.instructions ≡ code
 
+-- there is one
+pub record IsThere (o : Option ℕ) : Type 0 where
+  pub it : ℕ
+  pub is : o ≡ Some it
+
+-- how many words the values of a type have
+abbrev pub width_at : List Instruction → ℕ → ℕ
+width_at code t = if_some (shape code t) 0 width
+
 -- how many words the values of these types have together
 abbrev pub total_width : List Instruction → List ℕ → ℕ
 total_width code [] = 0
-total_width code (t ∷ ts) = if_some (shape code t) 0 width + total_width code ts
+total_width code (t ∷ ts) = width_at code t + total_width code ts
 
 -- a struct's member with a number is of a type, and stands behind those before it
 pub record IsMember (code : List Instruction) (t number part place : ℕ) : Type 0 where

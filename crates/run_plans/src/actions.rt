@@ -32,7 +32,7 @@ fn is_in_buffer(places: &Ground, pointer: u32) -> bool
 fn load_of(places: &Ground, type_id: u32, to: u32, pointer: u32) -> Result<Action, AllocError>
     ensures { IfOk result (λ action. action ≡ load_of places.now.places.code (rooms_of places.now) type_id to pointer) }
 {
-    let count = size_of(places, type_id)?;
+    let count = size_of(places, type_id);
     let from = places.slot(pointer);
     let to = places.slot(to);
     if is_in_buffer(places, pointer) {
@@ -49,7 +49,7 @@ fn load_of(places: &Ground, type_id: u32, to: u32, pointer: u32) -> Result<Actio
 fn store_of(places: &Ground, pointer: u32, value: u32) -> Result<Action, AllocError>
     ensures { IfOk result (λ action. action ≡ store_of places.now.places.code (rooms_of places.now) pointer value) }
 {
-    let count = slot_size(places, value)?;
+    let count = slot_size(places, value);
     let to = places.slot(pointer);
     let from = places.slot(value);
     if is_in_buffer(places, pointer) {
@@ -66,7 +66,7 @@ fn store_of(places: &Ground, pointer: u32, value: u32) -> Result<Action, AllocEr
 fn same_of(places: &Ground, type_id: u32, to: u32, from: u32) -> Result<Action, AllocError>
     ensures { IfOk result (λ action. action ≡ same_of places.now.places.code (rooms_of places.now) type_id to from) }
 {
-    let count = size_of(places, type_id)?;
+    let count = size_of(places, type_id);
     Ok(Action::Copy {
         part: Move {
             from: places.slot(from),
@@ -85,7 +85,7 @@ fn one_of(
 ) -> Result<Action, AllocError>
     ensures { IfOk result (λ action. action ≡ one_of places.now.places.code (rooms_of places.now) op type_id to from) }
 {
-    let count = size_of(places, type_id)?;
+    let count = size_of(places, type_id);
     Ok(Action::One {
         op,
         from: places.slot(from),
@@ -104,7 +104,7 @@ fn two_of(
 ) -> Result<Action, AllocError>
     ensures { IfOk result (λ action. action ≡ two_of places.now.places.code (rooms_of places.now) op type_id to left right) }
 {
-    let count = size_of(places, type_id)?;
+    let count = size_of(places, type_id);
     Ok(Action::Two {
         op,
         left: places.slot(left),
@@ -164,13 +164,13 @@ fn act_by(
         (Kind::Load, [of, to, pointer]) => load_of(places, *of, *to, *pointer),
         (Kind::Store, [pointer, value]) => store_of(places, *pointer, *value),
         (Kind::Chain, [_, to, pointer, indices @ ..]) => {
-            chain_of(alloc, places, *to, *pointer, indices)
+            chain_of(alloc, places, *to, *pointer, indices).map_err(|_| AllocError)
         }
         (Kind::Construct, [_, to, values @ ..]) => {
             let parts = gathered(alloc, places, values, places.slot(*to))?;
             Ok(Action::Gather { parts })
         }
-        (Kind::Extract, [of, to, whole, path @ ..]) => extract_of(places, *of, *to, *whole, path),
+        (Kind::Extract, [of, to, whole, path @ ..]) => Ok(extract_of(places, *of, *to, *whole, path)),
         (Kind::Same, [of, to, from]) => same_of(places, *of, *to, *from),
         (Kind::One(op), [of, to, from]) => one_of(places, op, *of, *to, *from),
         (Kind::Two(op), [of, to, left, right]) => two_of(places, op, *of, *to, *left, *right),

@@ -136,7 +136,7 @@ pub fn return_of(places: &Ground, function: usize) -> Action
 pub fn give_back_of(places: &Ground, function: usize, value: u32) -> Result<Action, AllocError>
     ensures { IfOk result (λ action. action ≡ give_back_of places.now.places.code (rooms_of places.now) function value) }
 {
-    let count = slot_size(places, value)?;
+    let count = slot_size(places, value);
     Ok(Action::GiveBack {
         frame: places.frame(function),
         from: places.slot(value),

@@ -1,14 +1,17 @@
 // Composites that are made of parts, and parts that are taken out of them.
 
-ghost use Rattle.std.specs.Prelude.{◌≡◌, [], IfOk};
+ghost use Rattle.std.specs.Prelude.{◌≡◌, ◌+◌, ◌≤◌, true, Some, [], IfOk};
+ghost use Rattle.image_lookup.specs.Lookups.{operand, is_value};
+ghost use Rattle.image_declarations.specs.Holdings.{is_data};
+ghost use Rattle.image_operands.specs.Composites.{extract_end};
 ghost use Rattle.run_rooms.specs.Rooms.{slot_size};
 ghost use Rattle.run_plans.specs.Ground.{rooms_of};
 ghost use Rattle.run_plans.specs.Actions.{gathered, extract_of};
-ghost use Rattle.run_plans.specs.Members.{HasRows};
-ghost use Rattle.run_plans.specs.Walks.{IsOfValid, IsPath};
+ghost use Rattle.run_plans.specs.Grounds.{IsGround};
+ghost use Rattle.run_plans.specs.Walks.{width_at, IsPath, IsThere};
 
 use crate::base::Ground;
-use crate::parts::{Part, part_with, size_of, slot_size, sum};
+use crate::parts::{Part, part_with, size_of, slot_size};
 use run_actions::{Action, Move};
 use sqlite_items::Items;
 use std::alloc::{AllocError, Global};
@@ -17,7 +20,7 @@ use std::alloc::{AllocError, Global};
 pub fn move_of(places: &Ground, id: u32, to: u32) -> Result<Move, AllocError>
     ensures { IfOk result (λ m. m ≡ record { from = (rooms_of places.now).slot id; to = to; count = slot_size places.now.places.code id }) }
 {
-    let count = slot_size(places, id)?;
+    let count = slot_size(places, id);
     Ok(Move {
         from: places.slot(id),
         to,
@@ -38,27 +41,28 @@ pub fn gathered(
     let mut at = to;
     for value in values {
         let part = move_of(places, *value, at)?;
-        at = sum(at, part.count)?;
+        at = at.saturating_add(part.count);
         parts.push(part)?;
     }
     Ok(Items::from_vec(parts))
 }
 
 /// The part of a type's values to which a path of numbers leads.
-fn part_behind(places: &Ground, type_id: u32, path: &[u32]) -> Result<Part, AllocError>
-    requires valid { IsOfValid places.now.places.code }
-    requires rows { HasRows places.now }
-    ensures { IfOk result (λ part. IsPath places.now.places.code type_id path.now part.type_id part.place) }
+fn part_behind(places: &Ground, type_id: u32, path: &[u32]) -> Part
+    requires ground { IsGround places.now }
+    requires leads { IsThere (extract_end places.now.places.code type_id path.now) }
+    ensures part { IsPath places.now.places.code type_id path.now result.type_id result.place }
+    ensures inside { result.place + width_at places.now.places.code result.type_id ≤ width_at places.now.places.code type_id }
 {
     let mut at = Part { type_id, place: 0 };
     for number in path {
-        let part = part_with(places, at.type_id, *number)?;
+        let part = part_with(places, at.type_id, *number);
         at = Part {
             type_id: part.type_id,
-            place: sum(at.place, part.place)?,
+            place: at.place + part.place,
         };
     }
-    Ok(at)
+    at
 }
 
 /// The action that takes a part out of a composite.
@@ -68,24 +72,19 @@ pub fn extract_of(
     to: u32,
     composite: u32,
     path: &[u32],
-) -> Result<Action, AllocError>
-    requires valid { IsOfValid places.now.places.code }
-    requires rows { HasRows places.now }
-    ensures { IfOk result (λ action. action ≡ extract_of places.now.places.code (rooms_of places.now) type_id to composite path.now) }
+) -> Action
+    requires ground { IsGround places.now }
+    requires value { is_value places.now.places.code composite ≡ true }
+    requires whole { is_data places.now.places.code (operand places.now.places.code composite 0) ≡ true }
+    requires leads { extract_end places.now.places.code (operand places.now.places.code composite 0) path.now ≡ Some type_id }
+    ensures { result ≡ extract_of places.now.places.code (rooms_of places.now) type_id to composite path.now }
 {
-    let declarations = places.declarations();
-    let whole = declarations.operand(composite, 0);
-    if !declarations.is_data(whole) {
-        return Err(AllocError);
-    }
-    let part = part_behind(places, whole, path)?;
-    let from = sum(places.slot(composite), part.place)?;
-    let count = size_of(places, type_id)?;
-    Ok(Action::Copy {
+    let part = part_behind(places, places.declarations().operand(composite, 0), path);
+    Action::Copy {
         part: Move {
-            from,
+            from: places.slot(composite) + part.place,
             to: places.slot(to),
-            count,
+            count: size_of(places, type_id),
         },
-    })
+    }
 }

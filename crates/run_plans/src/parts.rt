@@ -1,20 +1,15 @@
 // The parts of composites, and the places of their words.
 
-ghost use Rattle.std.specs.Prelude.{◌≡◌, ℕ, ◌+◌, ◌*◌, IfOk, Some, drop, take, slice_get};
-ghost use Rattle.spirv_words.specs.Machine.{if_some};
-ghost use Rattle.flat_values.specs.Flat.{width};
-ghost use Rattle.image_lookup.specs.Lookups.{operand, operands};
-ghost use Rattle.image_facts.specs.Operands.{shape};
+ghost use Rattle.std.specs.Prelude.{◌≡◌, ◌+◌, ◌*◌, ◌^◌, ◌<◌, ◌≤◌, Some, drop, take, slice_get};
+ghost use Rattle.image_lookup.specs.Lookups.{operand, operands, sort};
+ghost use Rattle.image_operands.specs.Composites.{literal_part_by};
 ghost use Rattle.run_rooms.specs.Rooms.{size_of, slot_size};
 ghost use Rattle.run_plans.specs.Grounds.{IsGround};
-ghost use Rattle.run_plans.specs.Members.{HasRows};
-ghost use Rattle.run_plans.specs.Walks.{total_width, IsMember, IsPart, IsOfValid};
+ghost use Rattle.run_plans.specs.Walks.{total_width, width_at, IsThere, IsMember, IsPart};
 
 use crate::base::Ground;
 use crate::members::row_in;
-use image_declarations::length_of;
 use image_lookup::Sort;
-use std::alloc::AllocError;
 
 /// A part: its type, and the place of its first word behind that of the whole.
 #[derive(Clone, Copy)]
@@ -26,7 +21,7 @@ pub struct Part {
 /// How many words the values of a type have.
 pub fn width_of(places: &Ground, type_id: u32) -> u32
     requires ground { IsGround places.now }
-    ensures { result ≡ if_some (shape places.now.places.code type_id) 0 width }
+    ensures { result ≡ width_at places.now.places.code type_id }
 {
     match places.places.width_of(type_id) {
         Some(width) => width,
@@ -35,102 +30,91 @@ pub fn width_of(places: &Ground, type_id: u32) -> u32
 }
 
 /// How many words an operand of a type has.
-pub fn size_of(places: &Ground, type_id: u32) -> Result<u32, AllocError>
-    ensures { IfOk result (λ n. n ≡ size_of places.now.places.code type_id) }
+pub fn size_of(places: &Ground, type_id: u32) -> u32
+    requires ground { IsGround places.now }
+    ensures { result ≡ size_of places.now.places.code type_id }
 {
     match places.places.size_of(type_id) {
-        Some(size) => Ok(size),
-        None => Err(AllocError),
+        Some(size) => size,
+        None => unreachable!(),
     }
 }
 
 /// How many words an id has.
-pub fn slot_size(places: &Ground, id: u32) -> Result<u32, AllocError>
-    ensures { IfOk result (λ n. n ≡ slot_size places.now.places.code id) }
+pub fn slot_size(places: &Ground, id: u32) -> u32
+    requires ground { IsGround places.now }
+    ensures { result ≡ slot_size places.now.places.code id }
 {
     size_of(places, places.declarations().operand(id, 0))
 }
 
-/// The sum of two numbers of words.
-pub fn sum(one: u32, other: u32) -> Result<u32, AllocError>
-    ensures { IfOk result (λ n. n ≡ one + other) }
-{
-    match one.checked_add(other) {
-        Some(sum) => Ok(sum),
-        None => Err(AllocError),
-    }
-}
-
-/// So many times a number of words.
-fn product(one: u32, other: u32) -> Result<u32, AllocError>
-    ensures { IfOk result (λ n. n ≡ one * other) }
-{
-    match one.checked_mul(other) {
-        Some(product) => Ok(product),
-        None => Err(AllocError),
-    }
-}
-
 /// The type of a struct's member.
-pub fn member_type(places: &Ground, type_id: u32, number: u32) -> Result<u32, AllocError>
-    ensures { IfOk result (λ of. slice_get (drop 1 (operands places.now.places.code type_id)) number ≡ Some of) }
+pub fn member_type(places: &Ground, type_id: u32, number: u32) -> u32
+    requires there { IsThere (slice_get (drop 1 (operands places.now.places.code type_id)) number) }
+    ensures { slice_get (drop 1 (operands places.now.places.code type_id)) number ≡ Some result }
 {
     match places.declarations().operands(type_id) {
         [_, members @ ..] => match members.get(number as usize) {
-            Some(of) => Ok(*of),
-            None => Err(AllocError),
+            Some(of) => *of,
+            None => unreachable!(),
         },
-        _ => Err(AllocError),
+        _ => unreachable!(),
     }
 }
 
 /// Where a struct's member stands behind its first word.
-fn member_place(places: &Ground, type_id: u32, number: u32) -> Result<u32, AllocError>
-    requires rows { HasRows places.now }
-    ensures { IfOk result (λ place. place ≡ total_width places.now.places.code (take number (drop 1 (operands places.now.places.code type_id)))) }
+fn member_place(places: &Ground, type_id: u32, number: u32) -> u32
+    requires ground { IsGround places.now }
+    requires is_struct { sort places.now.places.code type_id ≡ Sort.StructType }
+    requires there { IsThere (slice_get (drop 1 (operands places.now.places.code type_id)) number) }
+    ensures { result ≡ total_width places.now.places.code (take number (drop 1 (operands places.now.places.code type_id))) }
 {
     match row_in(&places.members, type_id).get(number as usize) {
-        Some(place) => Ok(*place),
-        None => Err(AllocError),
+        Some(place) => *place,
+        None => unreachable!(),
     }
 }
 
 /// The member of a struct with a number.
-pub fn member(places: &Ground, type_id: u32, number: u32) -> Result<Part, AllocError>
-    requires rows { HasRows places.now }
-    ensures { IfOk result (λ part. IsMember places.now.places.code type_id number part.type_id part.place) }
+pub fn member(places: &Ground, type_id: u32, number: u32) -> Part
+    requires ground { IsGround places.now }
+    requires is_struct { sort places.now.places.code type_id ≡ Sort.StructType }
+    requires there { IsThere (slice_get (drop 1 (operands places.now.places.code type_id)) number) }
+    ensures { IsMember places.now.places.code type_id number result.type_id result.place }
 {
-    let of = member_type(places, type_id, number)?;
-    let place = member_place(places, type_id, number)?;
-    Ok(Part { type_id: of, place })
+    Part {
+        type_id: member_type(places, type_id, number),
+        place: member_place(places, type_id, number),
+    }
 }
 
 /// The element of a vector or an array with a number.
-fn element(places: &Ground, type_id: u32, number: u32) -> Result<Part, AllocError>
-    ensures { IfOk result (λ part. (part.type_id ≡ operand places.now.places.code type_id 1)
-        × (part.place ≡ number * if_some (shape places.now.places.code (operand places.now.places.code type_id 1)) 0 width)) }
+fn element(places: &Ground, type_id: u32, number: u32) -> Part
+    requires ground { IsGround places.now }
+    requires fits { number * width_at places.now.places.code (operand places.now.places.code type_id 1) < 2 ^ 32 }
+    ensures of { result.type_id ≡ operand places.now.places.code type_id 1 }
+    ensures behind { result.place ≡ number * width_at places.now.places.code (operand places.now.places.code type_id 1) }
 {
     let of = places.declarations().operand(type_id, 1);
-    let place = product(number, width_of(places, of))?;
-    Ok(Part { type_id: of, place })
+    Part {
+        type_id: of,
+        place: number * width_of(places, of),
+    }
 }
 
 /// The part of a composite with a number.
-pub fn part_with(places: &Ground, type_id: u32, number: u32) -> Result<Part, AllocError>
-    requires valid { IsOfValid places.now.places.code }
-    requires rows { HasRows places.now }
-    ensures { IfOk result (λ part. IsPart places.now.places.code type_id number part.type_id part.place) }
+pub fn part_with(places: &Ground, type_id: u32, number: u32) -> Part
+    requires ground { IsGround places.now }
+    requires there { IsThere (literal_part_by places.now.places.code (sort places.now.places.code type_id) type_id number) }
+    ensures part { IsPart places.now.places.code type_id number result.type_id result.place }
+    ensures of { literal_part_by places.now.places.code (sort places.now.places.code type_id) type_id number ≡ Some result.type_id }
+    ensures inside { result.place + width_at places.now.places.code result.type_id ≤ width_at places.now.places.code type_id }
 {
     let declarations = places.declarations();
     match declarations.sort(type_id) {
-        Sort::VectorType if number < declarations.operand(type_id, 2) => {
-            element(places, type_id, number)
-        }
-        Sort::ArrayType
-            if number < length_of(declarations.definitions(), declarations.operand(type_id, 2)) => {
-            element(places, type_id, number)
-        }
+        Sort::VectorType => element(places, type_id, number),
+        Sort::ArrayType => element(places, type_id, number),
         Sort::StructType => member(places, type_id, number),
-        _ => Err(AllocError),
+        _ => unreachable!(),
     }
 }

@@ -1,22 +1,21 @@
 // The steps of access chains.
 
-ghost use Rattle.std.specs.Prelude.{◌≡◌, ℕ, ◌/◌, ◌%◌, true, false, [], IfOk};
+ghost use Rattle.std.specs.Prelude.{◌≡◌, ℕ, ◌/◌, ◌%◌, true, false, [], IfSome, Some, drop, slice_get};
 ghost use Rattle.spirv_words.specs.Machine.{or_zero};
 ghost use Rattle.spirv_words.specs.Runs.{signed};
-ghost use Rattle.image_lookup.specs.Lookups.{operand, sort};
-ghost use Rattle.image_operands.specs.Memory.{constant_number};
+ghost use Rattle.image_lookup.specs.Lookups.{operands, sort};
+ghost use Rattle.image_operands.specs.Memory.{constant_number, is_index, part_by};
 ghost use Rattle.image_facts.specs.Operands.{globals_of};
 ghost use Rattle.run_plans.specs.Ground.{rooms_of};
-ghost use Rattle.run_plans.specs.Members.{HasRows};
-ghost use Rattle.run_plans.specs.Walks.{IsOfValid};
-ghost use Rattle.run_plans.specs.Steps.{AreWords, IsStepIf, IsStrideIf, IsElementStepIf};
+ghost use Rattle.run_plans.specs.Grounds.{IsGround};
+ghost use Rattle.run_plans.specs.Walks.{IsThere};
+ghost use Rattle.run_plans.specs.Steps.{type_behind, AreWords, IsStep, IsStepIf, IsStrideIf, IsElementStepIf};
 
 use crate::base::Ground;
 use crate::parts::{member, member_type, width_of};
 use image_declarations::length_of;
 use image_lookup::Sort;
 use run_actions::{Extent, Index};
-use std::alloc::AllocError;
 
 /// What an index of a chain does: it leads to a member at a known distance, or to an element that its word chooses.
 #[derive(Clone, Copy)]
@@ -25,31 +24,24 @@ pub enum Step {
     Element { index: Index, type_id: u32 },
 }
 
-/// Whether an id holds an int.
-fn is_signed(places: &Ground, id: u32) -> Result<bool, AllocError>
-    requires valid { IsOfValid places.now.places.code }
-    ensures { IfOk result (λ b. b ≡ signed places.now.places.code (globals_of places.now.places.code) id) }
+/// Whether an index is an int.
+fn is_signed(places: &Ground, id: u32) -> bool
+    requires ground { IsGround places.now }
+    requires index { is_index places.now.places.code id ≡ true }
+    ensures { result ≡ signed places.now.places.code (globals_of places.now.places.code) id }
 {
     let declarations = places.declarations();
-    let type_id = declarations.operand(id, 0);
-    if !declarations.is_value(id) {
-        return Err(AllocError);
-    }
-    match declarations.sort(type_id) {
-        Sort::IntType => Ok(declarations.operand(type_id, 2) == 1),
-        _ => Err(AllocError),
-    }
+    declarations.operand(declarations.operand(id, 0), 2) == 1
 }
 
-/// The number of a constant; a null is 0.
-fn number_of(places: &Ground, id: u32) -> Result<u32, AllocError>
-    ensures { IfOk result (λ n. n ≡ or_zero (constant_number places.now.places.code id)) }
+/// The number of a constant; 0 for a null, and for what is no constant.
+fn number_of(places: &Ground, id: u32) -> u32
+    ensures { result ≡ or_zero (constant_number places.now.places.code id) }
 {
     let declarations = places.declarations();
     match declarations.sort(id) {
-        Sort::Number => Ok(declarations.operand(id, 2)),
-        Sort::Null => Ok(0),
-        _ => Err(AllocError),
+        Sort::Number => declarations.operand(id, 2),
+        _ => 0,
     }
 }
 
@@ -65,18 +57,14 @@ fn in_words(bytes: u32) -> Option<u32>
 }
 
 /// How far the elements of a type are apart: in a buffer by their stride in bytes, and else by their words.
-fn stride_of(
-    places: &Ground,
-    in_buffer: bool,
-    of: u32,
-    bytes: u32,
-) -> Result<Option<u32>, AllocError>
-    ensures { IfOk result (IsStrideIf places.now.places.code in_buffer of bytes) }
+fn stride_of(places: &Ground, in_buffer: bool, of: u32, bytes: u32) -> Option<u32>
+    requires ground { IsGround places.now }
+    ensures { IsStrideIf places.now.places.code in_buffer of bytes result }
 {
     if in_buffer {
-        Ok(in_words(bytes))
+        in_words(bytes)
     } else {
-        Ok(Some(width_of(places, of)))
+        Some(width_of(places, of))
     }
 }
 
@@ -88,90 +76,85 @@ fn element_step(
     extent: Extent,
     bytes: u32,
     id: u32,
-) -> Result<Option<Step>, AllocError>
-    requires valid { IsOfValid places.now.places.code }
-    ensures { IfOk result (IsElementStepIf places.now.places.code (rooms_of places.now) in_buffer of extent bytes id) }
+) -> Option<Step>
+    requires ground { IsGround places.now }
+    requires index { is_index places.now.places.code id ≡ true }
+    ensures { IsElementStepIf places.now.places.code (rooms_of places.now) in_buffer of extent bytes id result }
 {
-    let stride = match stride_of(places, in_buffer, of, bytes)? {
+    let stride = match stride_of(places, in_buffer, of, bytes) {
         Some(stride) => stride,
-        None => return Ok(None),
+        None => return None,
     };
-    let signed = is_signed(places, id)?;
-    let slot = places.slot(id);
     let index = Index {
-        slot,
+        slot: places.slot(id),
         extent,
         stride,
-        signed,
+        signed: is_signed(places, id),
     };
-    Ok(Some(Step::Element { index, type_id: of }))
+    Some(Step::Element { index, type_id: of })
 }
 
 /// The member of a struct in a buffer.
-fn buffer_member(places: &Ground, type_id: u32, number: u32) -> Result<Option<Step>, AllocError>
-    requires valid { IsOfValid places.now.places.code }
-    ensures { (id : ℕ) → number ≡ or_zero (constant_number places.now.places.code id) → sort places.now.places.code type_id ≡ Sort.StructType
-        → IfOk result (IsStepIf places.now.places.code (rooms_of places.now) true type_id id) }
+fn buffer_member(places: &Ground, type_id: u32, number: u32) -> Option<Step>
+    requires ground { IsGround places.now }
+    requires is_struct { sort places.now.places.code type_id ≡ Sort.StructType }
+    requires there { IsThere (slice_get (drop 1 (operands places.now.places.code type_id)) number) }
+    ensures step { (id : ℕ) → number ≡ or_zero (constant_number places.now.places.code id)
+        → IsStepIf places.now.places.code (rooms_of places.now) true type_id id result }
+    ensures of { IfSome result (λ step. slice_get (drop 1 (operands places.now.places.code type_id)) number ≡ Some (type_behind step)) }
 {
-    let bytes = places
-        .declarations()
-        .decorations()
-        .offset(type_id, number as usize);
-    let of = member_type(places, type_id, number)?;
-    match in_words(bytes) {
-        Some(offset) => Ok(Some(Step::Member {
+    let decorations = places.declarations().decorations();
+    match in_words(decorations.offset(type_id, number as usize)) {
+        Some(offset) => Some(Step::Member {
             offset,
-            type_id: of,
-        })),
-        None => Ok(None),
+            type_id: member_type(places, type_id, number),
+        }),
+        None => None,
     }
 }
 
 /// The member of a struct in a variable.
-fn room_member(places: &Ground, type_id: u32, number: u32) -> Result<Option<Step>, AllocError>
-    requires valid { IsOfValid places.now.places.code }
-    requires rows { HasRows places.now }
-    ensures { (id : ℕ) → number ≡ or_zero (constant_number places.now.places.code id) → sort places.now.places.code type_id ≡ Sort.StructType
-        → IfOk result (IsStepIf places.now.places.code (rooms_of places.now) false type_id id) }
+fn room_member(places: &Ground, type_id: u32, number: u32) -> Step
+    requires ground { IsGround places.now }
+    requires is_struct { sort places.now.places.code type_id ≡ Sort.StructType }
+    requires there { IsThere (slice_get (drop 1 (operands places.now.places.code type_id)) number) }
+    ensures step { (id : ℕ) → number ≡ or_zero (constant_number places.now.places.code id)
+        → IsStep places.now.places.code (rooms_of places.now) false type_id id result }
+    ensures of { slice_get (drop 1 (operands places.now.places.code type_id)) number ≡ Some (type_behind result) }
 {
-    let part = member(places, type_id, number)?;
-    Ok(Some(Step::Member {
+    let part = member(places, type_id, number);
+    Step::Member {
         offset: part.place,
         type_id: part.type_id,
-    }))
+    }
 }
 
 /// The member of a struct that a constant numbers.
-fn member_step(
-    places: &Ground,
-    in_buffer: bool,
-    type_id: u32,
-    id: u32,
-) -> Result<Option<Step>, AllocError>
-    requires valid { IsOfValid places.now.places.code }
-    requires rows { HasRows places.now }
-    ensures { sort places.now.places.code type_id ≡ Sort.StructType
-        → IfOk result (IsStepIf places.now.places.code (rooms_of places.now) in_buffer type_id id) }
+fn member_step(places: &Ground, in_buffer: bool, type_id: u32, id: u32) -> Option<Step>
+    requires ground { IsGround places.now }
+    requires is_struct { sort places.now.places.code type_id ≡ Sort.StructType }
+    requires there { IsThere (slice_get (drop 1 (operands places.now.places.code type_id)) (or_zero (constant_number places.now.places.code id))) }
+    ensures step { IsStepIf places.now.places.code (rooms_of places.now) in_buffer type_id id result }
+    ensures of { IfSome result (λ step. slice_get (drop 1 (operands places.now.places.code type_id)) (or_zero (constant_number places.now.places.code id))
+        ≡ Some (type_behind step)) }
 {
-    let number = number_of(places, id)?;
+    let number = number_of(places, id);
     if in_buffer {
         buffer_member(places, type_id, number)
     } else {
-        room_member(places, type_id, number)
+        Some(room_member(places, type_id, number))
     }
 }
 
 /// Where an index leads from a type, if a run can go there: it goes to no elements of an array without length but those of a
 /// buffer, and to nothing in a buffer that stands at no whole word.
-pub fn step_from(
-    places: &Ground,
-    in_buffer: bool,
-    type_id: u32,
-    id: u32,
-) -> Result<Option<Step>, AllocError>
-    requires valid { IsOfValid places.now.places.code }
-    requires rows { HasRows places.now }
-    ensures { IfOk result (IsStepIf places.now.places.code (rooms_of places.now) in_buffer type_id id) }
+pub fn step_from(places: &Ground, in_buffer: bool, type_id: u32, id: u32) -> Option<Step>
+    requires ground { IsGround places.now }
+    requires index { is_index places.now.places.code id ≡ true }
+    requires there { IsThere (part_by places.now.places.code (sort places.now.places.code type_id) type_id (constant_number places.now.places.code id)) }
+    ensures step { IsStepIf places.now.places.code (rooms_of places.now) in_buffer type_id id result }
+    ensures of { IfSome result (λ step. part_by places.now.places.code (sort places.now.places.code type_id) type_id
+        (constant_number places.now.places.code id) ≡ Some (type_behind step)) }
 {
     let declarations = places.declarations();
     let of = declarations.operand(type_id, 1);
@@ -189,8 +172,8 @@ pub fn step_from(
             let bytes = declarations.decorations().stride(type_id);
             element_step(places, in_buffer, of, Extent::Whole, bytes, id)
         }
-        Sort::RuntimeArrayType => Ok(None),
+        Sort::RuntimeArrayType => None,
         Sort::StructType => member_step(places, in_buffer, type_id, id),
-        _ => Err(AllocError),
+        _ => unreachable!(),
     }
 }
