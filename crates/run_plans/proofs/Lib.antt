@@ -8,3 +8,6 @@ pub mod Ordered
 pub mod Written
 pub mod Acting
 pub mod Rows
+pub mod Sized
+pub mod Passed
+pub mod Fitting
