@@ -1,5 +1,5 @@
 -- The instructions of a valid image fit what their actions need.
-use Rattle.std.proofs.Common.{◌≡◌, ℕ, zero, suc, ◌+◌, ◌-◌, ◌*◌, ◌^◌, ◌<◌, ◌≤◌, Bool, true, false, ◌&&◌, cond, List, [], ◌∷◌, length, drop, slice_get, slice_index, Option, Some, None, refl, sym, ap, ◌∙◌, subst, add-one, arith}
+use Rattle.std.proofs.Common.{◌≡◌, ℕ, zero, suc, ◌+◌, ◌*◌, ◌^◌, ◌<◌, ◌≤◌, true, false, ◌&&◌, cond, List, [], ◌∷◌, length, drop, slice_get, slice_index, Option, Some, None, refl, sym, ap, ◌∙◌, subst, arith}
 use Rattle.std.specs.Prelude.{nat_eq, is_some}
 use Rattle.std.specs.List.{list_all}
 use Rattle.std.proofs.lemmas.Bool.{and_parts, eqb-true, false_from_ne_true}
@@ -20,7 +20,6 @@ use Rattle.image_declarations.specs.Types.{length_of}
 use Rattle.image_declarations.specs.Holdings.{is_data, has_type}
 use Rattle.image_operands.specs.Memory.{is_pointer_sort, is_pointer, chain_end, chain_fits}
 use Rattle.image_operands.specs.Composites.{are_members, are_elements, parts_fit, construct_fits, extract_end, extract_fits}
-use Rattle.image_types.specs.Checking.{context_at}
 use Rattle.image_calls.specs.Arguments.{is_argument, are_arguments, parameter_types}
 use Rattle.image_scopes.proofs.Kept.{meets_rule}
 use Rattle.image_scopes.proofs.Values.{sort_is}
@@ -30,11 +29,11 @@ use Rattle.image_scopes.proofs.Contexts.{operands_is, call_at}
 use Rattle.image_scopes.proofs.Entering.{function}
 use Rattle.image_scopes.proofs.Signatures.{is_data_sort, data_sorted}
 use Rattle.image_facts.specs.Operands.{shape}
-use Rattle.image_facts.specs.Shaped.{IsRepeated, IsFields, AreFields, HasData}
+use Rattle.image_facts.specs.Shaped.{AreFields}
 use Rattle.image_facts.proofs.Shapes.{shape-vector}
-use Rattle.image_facts.proofs.Data.{shape-array, shape-struct, data-shape, component-data, array-data, data-member, member-behind}
+use Rattle.image_facts.proofs.Data.{shape-array, shape-struct, component-data, array-data, data-member, member-behind}
 use Rattle.spirv_check.specs.Valid.{Valid}
-use Rattle.run_rooms.specs.Rooms.{Rooms, AreRooms, Slot, IsFunction, size_of, slot_size, home_of}
+use Rattle.run_rooms.specs.Rooms.{Rooms, AreRooms, Slot, size_of, slot_size, home_of}
 use Rattle.run_plans.specs.declared.base.Ground.{Ground}
 use Rattle.run_plans.specs.Kinds.{kind_of}
 use Rattle.run_plans.specs.Acted.{sizes, IsChained, IsExtracted, IsCalled, IsActed}

@@ -1,4 +1,4 @@
-use Rattle.std.proofs.Common.{◌≡◌, ◌+◌, drop, slice_index_or, ◌∙◌, arith}
+use Rattle.std.proofs.Common.{◌≡◌, slice_index_or, arith}
 use Rattle.run_rooms.specs.Rooms.{slot_size}
 use Rattle.run_plans.proofs.Sized.{sizes_from}
 use Rattle.run_plans.proofs.composites.gathered.Goals as goal
