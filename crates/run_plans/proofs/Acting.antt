@@ -7,7 +7,8 @@ use Rattle.std.specs.Option.{option_map}
 use Rattle.image_places.specs.Places.{function_of, under_function}
 use Rattle.run_actions.specs.declared.actions.Action.{Action}
 use Rattle.run_rooms.specs.Rooms.{Rooms}
-use Rattle.run_plans.specs.Actions.{action_of}
+use Rattle.run_plans.specs.declared.kinds.Kind.{Kind}
+use Rattle.run_plans.specs.Actions.{act_by, action_of}
 use Rattle.run_plans.specs.Plans.{AreActions}
 use Rattle.run_plans.proofs.Placed.{some_same}
 
@@ -63,6 +64,11 @@ module _ (code : List Instruction) (L : Rooms) where
     as_many = f.as_many ∙ e;
     each = λ k i at. f.each k i (subst (λ (m : ℕ). k < m) (sym e) (slice_get_within code k i at)) at;
   }
+
+-- an instruction's kind is this one
+pub acts_so : (code : List Instruction) (L : Rooms) (n : ℕ) (os : List ℕ) (kind this : Kind) (a : Action) → kind ≡ this → a ≡ act_by code L n this os
+    → a ≡ act_by code L n kind os
+acts_so code L n os kind this a e f = f ∙ ap (λ (kind : Kind). act_by code L n kind os) (sym e)
 
 -- the function behind an instruction
 pub function_next : (code : List Instruction) (n before now : ℕ) (i : Instruction) → slice_get code n ≡ Some i → before ≡ function_of code n

@@ -14,3 +14,6 @@ pub mod Searched
 pub mod Reached
 pub mod Widths
 pub mod Rooms
+pub mod Sized
+pub mod Passed
+pub mod Fitting

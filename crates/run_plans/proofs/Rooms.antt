@@ -1,21 +1,26 @@
 -- The words of values fit their rooms.
-use Rattle.std.proofs.Common.{◌≡◌, ℕ, ◌+◌, ◌^◌, ◌<◌, ◌≤◌, Bool, true, false, cond, List, Option, Some, None, sym, ap, ◌∙◌, subst, arith}
+use Rattle.std.proofs.Common.{◌≡◌, ℕ, ◌+◌, ◌^◌, ◌<◌, true, List, refl, Option, sym, ap, ◌∙◌, subst}
 use Rattle.spirv_words.specs.declared.images.Instruction.{Instruction}
-use Rattle.spirv_words.specs.Machine.{place_of, if_some}
+use Rattle.spirv_words.specs.Machine.{Shape, if_some}
 use Rattle.flat_values.specs.Flat.{width}
-use Rattle.image_lookup.specs.declared.sorts.Sort.{Sort}
-use Rattle.image_lookup.specs.declared.sorts.Sort.TheVariants.{PointerType}
-use Rattle.image_lookup.specs.Lookups.{sort, operand, is_value}
-use Rattle.image_places.specs.Places.{function_of, op_at}
+use Rattle.image_lookup.specs.Lookups.{is_value}
 use Rattle.image_declarations.specs.Holdings.{is_data}
-use Rattle.image_declarations.specs.Reach.{is_buffer_class}
-use Rattle.image_operands.specs.Memory.{is_pointer, is_pointer_sort}
-use Rattle.image_facts.specs.Operands.{shape}
-use Rattle.image_scopes.proofs.Signatures.{is_data_sort, data_sorted}
-use Rattle.run_rooms.specs.Rooms.{Rooms, AreRooms, Slot, IsFunction, size_of, slot_size, home_of}
+use Rattle.run_rooms.specs.Rooms.{Rooms, AreRooms, size_of, slot_size}
 use Rattle.run_rooms.proofs.Defined.{value-placed}
 use Rattle.run_plans.specs.Walks.{IsOfValid, width_at}
+use Rattle.run_plans.proofs.Facts.{data_shape}
+use Rattle.run_plans.proofs.Fitting.{slot_inside, data_size}
 
-no_pointer_sort : (s : Sort) → is_data_sort s ≡ true → is_pointer_sort s ≡ false
-no_pointer_sort PointerType d = cc
-no_pointer_sort s d = refl
+-- 32 bits tell where the words of a value end
+pub slot_fits : (code : List Instruction) → IsOfValid code → (L : Rooms) → AreRooms code L → (x : ℕ) → is_value code x ≡ true
+    → L.slot x + slot_size code x < 2 ^ 32
+slot_fits code v L rooms x value =
+    subst (λ (c : List Instruction). AreRooms c L → is_value c x ≡ true → L.slot x + slot_size c x < 2 ^ 32) v.same
+    (λ rooms value. let p = value-placed v.image.instructions x value in slot_inside v.image v.valid L rooms x p.place value p.there) rooms value
+
+-- a type of data has as many words as its values
+pub data_width : (code : List Instruction) → IsOfValid code → (t : ℕ) → is_data code t ≡ true → size_of code t ≡ width_at code t
+data_width code v t d =
+    subst (λ (c : List Instruction). is_data c t ≡ true → size_of c t ≡ width_at c t) v.same
+    (λ d. let s = data_shape v.image.instructions (record { image = v.image; valid = v.valid; same = refl }) t d in
+    data_size v.image v.valid t s.form d s.is ∙ sym (ap (λ (o : Option Shape). if_some o 0 width) s.is)) d

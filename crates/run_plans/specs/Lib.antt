@@ -11,3 +11,4 @@ pub mod Buffers
 pub mod Whole
 pub mod Grounds
 pub mod Far
+pub mod Acted

@@ -1,10 +1,12 @@
 // Calls, returns, and places that a run goes to.
 
-ghost use Rattle.std.specs.Prelude.{◌≡◌, ◌+◌, ◌^◌, ◌<◌, ℕ, [], IfOk, slice_get, Some, length};
+ghost use Rattle.std.specs.Prelude.{◌≡◌, ◌+◌, ◌^◌, ◌<◌, ℕ, [], IfOk, length};
 ghost use Rattle.spirv_words.specs.Machine.{second_of, place_of};
+ghost use Rattle.run_plans.specs.Acted.{IsCalled};
 ghost use Rattle.run_plans.specs.Ground.{rooms_of};
+ghost use Rattle.run_plans.specs.Grounds.{IsGround};
 ghost use Rattle.run_plans.specs.Actions.{passed, call_of, is_entry_number, return_of, give_back_of};
-ghost use Rattle.run_plans.specs.Calls.{IsGivenBy};
+ghost use Rattle.run_plans.specs.Calls.{given_at};
 
 use crate::base::Ground;
 use crate::composites::move_of;
@@ -14,7 +16,7 @@ use run_actions::{Action, Move};
 use sqlite_items::Items;
 use std::alloc::{AllocError, Global};
 
-/// A number of an instruction, as a word.
+/// A number, as a word.
 pub fn word_of(number: usize) -> u32
     requires { number < 2 ^ 32 }
     ensures { result ≡ number }
@@ -22,36 +24,34 @@ pub fn word_of(number: usize) -> u32
     number as u32
 }
 
-/// The instruction behind another.
-fn behind(number: usize) -> Result<usize, AllocError>
-    ensures { IfOk result (λ n. n ≡ number + 1) }
-{
-    match number.checked_add(1) {
-        Some(next) => Ok(next),
-        None => Err(AllocError),
-    }
-}
-
-/// The place of what an id stands for.
-pub fn place_of(places: &Ground, id: u32) -> Result<usize, AllocError>
-    ensures { IfOk result (λ p. place_of places.now.places.code id 0 ≡ Some p) }
+/// The place of what an id stands for, as a word.
+pub fn place_of(places: &Ground, id: u32) -> Option<u32>
+    requires ground { IsGround places.now }
+    ensures { result ≡ place_of places.now.places.code id 0 }
 {
     match places.declarations().definitions().place(id) {
-        Some(place) => Ok(place),
-        None => Err(AllocError),
+        Some(place) => Some(word_of(place)),
+        None => None,
     }
 }
 
-/// The id of what the instruction at a place gives, behind its type.
-fn given_at(places: &Ground, place: usize) -> Result<u32, AllocError>
-    ensures { IfOk result (IsGivenBy places.now.places.code place) }
+/// The second of some operands.
+fn second_of(operands: &[u32]) -> Option<u32>
+    ensures { result ≡ second_of operands.now }
+{
+    match operands {
+        [_, id, ..] => Some(*id),
+        _ => None,
+    }
+}
+
+/// The id that the instruction at a place has behind its type.
+fn given_at(places: &Ground, place: usize) -> Option<u32>
+    ensures { result ≡ given_at places.now.places.code place }
 {
     match places.declarations().code().get(place) {
-        Some(instruction) => match instruction.operands.as_slice() {
-            [_, id, ..] => Ok(*id),
-            _ => Err(AllocError),
-        },
-        None => Err(AllocError),
+        Some(instruction) => second_of(instruction.operands.as_slice()),
+        None => None,
     }
 }
 
@@ -62,15 +62,19 @@ fn passed(
     arguments: &[u32],
     place: usize,
 ) -> Result<Items<Move>, AllocError>
+    requires ground { IsGround places.now }
+    requires near { place + length arguments.now < 2 ^ 32 }
     ensures { IfOk result (λ parts. parts ≡ passed places.now.places.code (rooms_of places.now) arguments.now place) }
 {
     let mut parts = Vec::new(alloc);
     let mut at = place;
     for argument in arguments {
-        let parameter = given_at(places, at)?;
-        let part = move_of(places, *argument, places.slot(parameter))?;
-        parts.push(part)?;
-        at = behind(at)?;
+        let parameter = match given_at(places, at) {
+            Some(parameter) => parameter,
+            None => return Ok(Items::from_vec(parts)),
+        };
+        parts.push(move_of(places, *argument, places.slot(parameter)))?;
+        at += 1;
     }
     Ok(Items::from_vec(parts))
 }
@@ -84,21 +88,23 @@ pub fn call_of(
     function: u32,
     arguments: &[u32],
 ) -> Result<Action, AllocError>
+    requires ground { IsGround places.now }
+    requires inside { number < length places.now.places.code }
+    requires called { IsCalled places.now.places.code function arguments.now }
     ensures { IfOk result (λ action. action ≡ call_of places.now.places.code (rooms_of places.now) number to function arguments.now) }
 {
-    let first = behind(place_of(places, function)?)?;
-    let parts = passed(alloc, places, arguments, first)?;
-    let place = match first.checked_add(arguments.len()) {
-        Some(place) => word_of(place),
-        None => return Err(AllocError),
+    let first = match places.declarations().definitions().place(function) {
+        Some(place) => place + 1,
+        None => return Ok(Action::Never),
     };
+    let parts = passed(alloc, places, arguments, first)?;
     Ok(Action::Call {
-        place,
+        place: word_of(first + arguments.len()),
         parts,
         first: places.rooms(first),
         count: places.rooms_count(first),
         frame: places.frame(first),
-        back: word_of(behind(number)?),
+        back: word_of(number + 1),
         to: places.slot(to),
     })
 }
@@ -133,13 +139,13 @@ pub fn return_of(places: &Ground, function: usize) -> Action
 }
 
 /// The action of a return with a value from a function.
-pub fn give_back_of(places: &Ground, function: usize, value: u32) -> Result<Action, AllocError>
-    ensures { IfOk result (λ action. action ≡ give_back_of places.now.places.code (rooms_of places.now) function value) }
+pub fn give_back_of(places: &Ground, function: usize, value: u32) -> Action
+    requires ground { IsGround places.now }
+    ensures { result ≡ give_back_of places.now.places.code (rooms_of places.now) function value }
 {
-    let count = slot_size(places, value);
-    Ok(Action::GiveBack {
+    Action::GiveBack {
         frame: places.frame(function),
         from: places.slot(value),
-        count,
-    })
+        count: slot_size(places, value),
+    }
 }

@@ -1,6 +1,6 @@
 // Access chains, resolved to a fixed offset and steps.
 
-ghost use Rattle.std.specs.Prelude.{◌≡◌, ◌++◌, IfOk, IfErr, OnOk};
+ghost use Rattle.std.specs.Prelude.{◌≡◌, ◌++◌, true, IfOk, IfErr, OnOk, is_some};
 ghost use Rattle.call_layout.specs.declared.faults.Fault.TheVariants.{TooLarge};
 ghost use Rattle.image_lookup.specs.Lookups.{operand};
 ghost use Rattle.image_operands.specs.Memory.{chain_end};
@@ -99,8 +99,9 @@ pub fn chain_of(
     indices: &[u32],
 ) -> Result<Action, Fault>
     requires ground { IsGround places.now }
-    requires leads { IsThere (chain_end places.now.places.code (operand places.now.places.code (operand places.now.places.code pointer 0) 2) indices.now) }
+    requires leads { is_some (chain_end places.now.places.code (operand places.now.places.code (operand places.now.places.code pointer 0) 2) indices.now) ≡ true }
     ensures chain { IfOk result (λ action. action ≡ chain_of places.now.places.code (rooms_of places.now) to pointer indices.now) }
+    ensures near { IfOk result (λ action. LeadsFar action → ⊥) }
     ensures too_large { IfErr result (λ fault. fault ≡ TooLarge → LeadsFar (chain_of places.now.places.code (rooms_of places.now) to pointer indices.now)) }
 {
     let declarations = places.declarations();

@@ -1,12 +1,13 @@
 // Composites that are made of parts, and parts that are taken out of them.
 
-ghost use Rattle.std.specs.Prelude.{◌≡◌, ◌+◌, ◌≤◌, true, Some, [], IfOk};
+ghost use Rattle.std.specs.Prelude.{◌≡◌, ◌+◌, ◌^◌, ◌<◌, ◌≤◌, true, Some, [], IfOk};
 ghost use Rattle.image_lookup.specs.Lookups.{operand, is_value};
 ghost use Rattle.image_declarations.specs.Holdings.{is_data};
 ghost use Rattle.image_operands.specs.Composites.{extract_end};
 ghost use Rattle.run_rooms.specs.Rooms.{slot_size};
 ghost use Rattle.run_plans.specs.Ground.{rooms_of};
 ghost use Rattle.run_plans.specs.Actions.{gathered, extract_of};
+ghost use Rattle.run_plans.specs.Acted.{sizes};
 ghost use Rattle.run_plans.specs.Grounds.{IsGround};
 ghost use Rattle.run_plans.specs.Walks.{width_at, IsPath, IsThere};
 
@@ -17,15 +18,15 @@ use sqlite_items::Items;
 use std::alloc::{AllocError, Global};
 
 /// The words of an id, copied to a place.
-pub fn move_of(places: &Ground, id: u32, to: u32) -> Result<Move, AllocError>
-    ensures { IfOk result (λ m. m ≡ record { from = (rooms_of places.now).slot id; to = to; count = slot_size places.now.places.code id }) }
+pub fn move_of(places: &Ground, id: u32, to: u32) -> Move
+    requires ground { IsGround places.now }
+    ensures { result ≡ record { from = (rooms_of places.now).slot id; to = to; count = slot_size places.now.places.code id } }
 {
-    let count = slot_size(places, id);
-    Ok(Move {
+    Move {
         from: places.slot(id),
         to,
-        count,
-    })
+        count: slot_size(places, id),
+    }
 }
 
 /// The words of values, one behind the other from a place on.
@@ -35,13 +36,15 @@ pub fn gathered(
     values: &[u32],
     to: u32,
 ) -> Result<Items<Move>, AllocError>
+    requires ground { IsGround places.now }
+    requires inside { to + sizes places.now.places.code values.now < 2 ^ 32 }
     ensures { IfOk result (λ parts. parts ≡ gathered places.now.places.code (rooms_of places.now) values.now to) }
 {
     let mut parts = Vec::new(alloc);
     let mut at = to;
     for value in values {
-        let part = move_of(places, *value, at)?;
-        at = at.saturating_add(part.count);
+        let part = move_of(places, *value, at);
+        at += part.count;
         parts.push(part)?;
     }
     Ok(Items::from_vec(parts))

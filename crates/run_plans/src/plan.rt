@@ -1,12 +1,13 @@
 // All that an image is run by.
 
-ghost use Rattle.std.specs.Prelude.{◌≡◌, ◌+◌, IfOk};
+ghost use Rattle.std.specs.Prelude.{◌≡◌, IfOk, IfErr};
+ghost use Rattle.call_layout.specs.declared.faults.Fault.TheVariants.{TooLarge};
 ghost use Rattle.spirv_words.specs.Runs.{start_place};
-ghost use Rattle.run_rooms.specs.Rooms.{Rooms, AreRooms};
+ghost use Rattle.run_rooms.specs.Rooms.{Rooms};
 ghost use Rattle.run_plans.specs.Buffers.{AreBounds};
 ghost use Rattle.run_plans.specs.Ground.{rooms_of};
-ghost use Rattle.run_plans.specs.Members.{HasRows};
-ghost use Rattle.run_plans.specs.Walks.{IsOfValid};
+ghost use Rattle.run_plans.specs.Grounds.{AreFew, IsGround};
+ghost use Rattle.run_plans.specs.Far.{HasFarChain, IsTooLarge};
 ghost use Rattle.run_plans.specs.Whole.{IsPlan};
 
 use crate::actions::actions_of;
@@ -15,13 +16,14 @@ use crate::buffers::buffers_of;
 use crate::ends::are_near;
 use crate::members::rows_of;
 use crate::words::first_words;
+use call_layout::Fault;
 use image_declarations::Declarations;
 use image_lookup::entry_of;
 use run_actions::Action;
 use run_rooms::Places;
 use spirv_check::ValidImage;
 use sqlite_items::Items;
-use std::alloc::{AllocError, Global};
+use std::alloc::Global;
 
 /// What an image is run by.
 #[derive(Drop)]
@@ -43,8 +45,9 @@ pub struct Plan {
 }
 
 /// The entry's first Label.
-fn start_place(declarations: &Declarations) -> Result<usize, AllocError>
-    ensures { IfOk result (λ place. place ≡ start_place declarations.now) }
+fn start_place(declarations: &Declarations) -> usize
+    requires few { AreFew declarations.now }
+    ensures { result ≡ start_place declarations.now }
 {
     let entry = match entry_of(declarations.code()) {
         Some(entry) => entry,
@@ -54,23 +57,20 @@ fn start_place(declarations: &Declarations) -> Result<usize, AllocError>
         Some(place) => place,
         None => 0,
     };
-    match place.checked_add(1) {
-        Some(start) => Ok(start),
-        None => Err(AllocError),
-    }
+    place + 1
 }
 
 /// The plan, where the places of values and the buffers are known.
-fn plan_on(alloc: Global, base: Ground) -> Result<Plan, AllocError>
-    requires valid { IsOfValid base.places.code }
-    requires rooms { AreRooms base.places.code (rooms_of base) }
+fn plan_on(alloc: Global, base: Ground) -> Result<Plan, Fault>
+    requires ground { IsGround base }
     requires bounds { AreBounds base.places.code base.buffers }
-    requires rows { HasRows base }
-    ensures { IfOk result (IsPlan base.entry.places.code (rooms_of base.entry)) }
+    ensures plan { IfOk result (IsPlan base.entry.places.code (rooms_of base.entry)) }
+    ensures near { IfOk result (λ plan. HasFarChain base.entry.places.code → ⊥) }
+    ensures too_large { IfErr result (λ fault. fault ≡ TooLarge → HasFarChain base.entry.places.code) }
 {
     let actions = actions_of(alloc, &base)?;
     let words = first_words(alloc, &base)?;
-    let place = start_place(base.declarations())?;
+    let place = start_place(base.declarations());
     let first = base.rooms(place);
     let count = base.rooms_count(place);
     let inputs = [
@@ -91,11 +91,16 @@ fn plan_on(alloc: Global, base: Ground) -> Result<Plan, AllocError>
     })
 }
 
-/// What a valid image is run by. It errs for want of memory, also where 32 bits do not tell all places, words and bytes.
-pub fn plan_of(alloc: Global, image: &ValidImage) -> Result<Plan, AllocError>
-    ensures { IfOk result (λ p. (L : Rooms) × IsPlan image.now.instructions L p) }
+/// What a valid image is run by. It errs for want of memory, and exactly where a run needs numbers that 32 bits do not tell.
+pub fn plan_of(alloc: Global, image: &ValidImage) -> Result<Plan, Fault>
+    ensures plan { IfOk result (λ p. (L : Rooms) × IsPlan image.now.instructions L p) }
+    ensures enough { IfOk result (λ p. IsTooLarge image.now.instructions → ⊥) }
+    ensures too_large { IfErr result (λ fault. fault ≡ TooLarge → IsTooLarge image.now.instructions) }
 {
     let places = Places::new(alloc, image.image().instructions.as_slice())?;
+    if !are_near(places.declarations()) {
+        return Err(Fault::TooLarge);
+    }
     let buffers = buffers_of(alloc, places.declarations())?;
     let members = rows_of(alloc, &places)?;
     plan_on(

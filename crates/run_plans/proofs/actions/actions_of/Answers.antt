@@ -1,4 +1,4 @@
-use Rattle.std.proofs.Common.{◌≡◌, ◌∷◌, ◌++◌, List, Some, [], length, slice_get, arith, refl, ap, ◌∙◌, subst}
+use Rattle.std.proofs.Common.{◌≡◌, ℕ, sym, ◌∷◌, ◌++◌, List, Some, [], length, slice_get, arith, refl, ap, ◌∙◌, subst}
 use Rattle.std.proofs.lemmas.Grind.{common_steps}
 use Rattle.std.proofs.lemmas.Option.{slice_get_read}
 use Rattle.spirv_words.specs.declared.images.Instruction.{Instruction}
@@ -6,8 +6,22 @@ use Rattle.run_plans.specs.Ground.{rooms_of}
 use Rattle.run_plans.specs.declared.kinds.Kind.{Kind}
 use Rattle.run_plans.specs.Kinds.{kind_of}
 use Rattle.run_plans.specs.Actions.{act_by, action_of}
+use Rattle.run_plans.specs.Acted.{IsActed}
+use Rattle.run_plans.proofs.Fitting.{is_acted}
 use Rattle.run_plans.proofs.Acting.{act_next, act_all, function_next}
 use Rattle.run_plans.proofs.actions.actions_of.Goals as goal
+
+pub act_by-requires-clause-acted : goal.act_by-requires-clause-acted
+act_by-requires-clause-acted c =
+    let code = c.args.places.now.places.code in
+    let n = c.loop-number.number in
+    let i = c.instruction-item.result in
+    let L = rooms_of c.args.places.now in
+    let here = slice_get_read c.code-instruction-items.result.now (length c.code-instruction-items.result.now) n i refl c.loop-number-test.true c.instruction-item.is in
+    let same : c.code-instruction-items.result.now ≡ code = c.code-instruction-items.ensures ∙ c.declarations.ensures in
+    let at : slice_get code n ≡ Some i = subst (λ (is : List Instruction). slice_get is n ≡ Some i) same here in
+    subst (λ (os : List ℕ). IsActed code L c.kind_of-kind.result os) (sym c.as_slice-operands.ensures)
+    (subst (λ (kind : Kind). IsActed code L kind i.operands) (sym c.kind_of-kind.ensures) (is_acted c.args.places.now n i c.requires.ground at))
 
 pub loop-number-preserved : goal.loop-number-preserved
 loop-number-preserved c =

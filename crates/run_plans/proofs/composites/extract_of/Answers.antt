@@ -26,7 +26,7 @@ overflow_add-result c =
     let x = c.args.composite in
     let whole : c.operand.result ≡ operand code x 0 =
         c.operand.ensures ∙ ap (λ (is : List Instruction). operand is x 0) c.declarations.ensures in
-    let room = slot_fits code (rooms_of g) c.requires.ground.rooms x c.requires.value in
+    let room = slot_fits code c.requires.ground.valid (rooms_of g) c.requires.ground.rooms x c.requires.value in
     let size = data_width code c.requires.ground.valid (type_id code x) c.requires.whole in
     let inside = subst (λ (t : ℕ). c.part_behind-part.result.place + width_at code c.part_behind-part.result.type_id ≤ width_at code t) whole
         c.part_behind-part.ensures.inside in
