@@ -57,7 +57,7 @@ kind (Room x) = 1
 kind (Frame f) = 2
 kind (Slot x) = 3
 
-op-within : (code : List Instruction) (p : ℕ) (o : Op) → op_at code p ≡ Some o → p < length code
+pub op-within : (code : List Instruction) (p : ℕ) (o : Op) → op_at code p ≡ Some o → p < length code
 op-within code p o e = by (slice_get code p) refl
   where
     by : (i : Option Instruction) → slice_get code p ≡ i → p < length code

@@ -182,14 +182,17 @@ module _ (image : Image) (v : Valid image)
       let same : Some g.place ≡ Some q.place = sym g.there ∙ q.there in
       let to : b ≡ suc g.place = q.number ∙ cc in
       let edge : edge_of i (inside_at all h.number) ≡ Some (w.function, q.function) =
-      ap (λ (o : Option ℕ). edge_of i o) w.caller ∙ edge-is i w.function q.type q.result q.function q.arguments q.is_call q.operands in
-      (function-at w.place w.result w.function w.type w.stands a from, function-at g.place g.result q.function g.type g.stands b to, record {
-        caller = w.function;
-        callee = q.function;
-        from = record { place = w.place; there = w.there; is = from };
-        to = record { place = g.place; there = g.there; is = to };
-        edge = is-edge None all h.number i w.function q.function h.stands edge;
-      })
+      ap (λ (o : Option ℕ). edge_of i o) w.caller ∙ edge-is i w.function q.type q.result q.function q.arguments q.is_call q.operands in (
+        function-at w.place w.result w.function w.type w.stands a from,
+        function-at g.place g.result q.function g.type g.stands b to,
+        record {
+          caller = w.function;
+          callee = q.function;
+          from = record { place = w.place; there = w.there; is = from };
+          to = record { place = g.place; there = g.there; is = to };
+          edge = is-edge None all h.number i w.function q.function h.stands edge;
+        },
+      )
     where
       edge-is : (i : Instruction) (x t r f : ℕ) (arguments : List ℕ) → i.op ≡ FunctionCall → i.operands ≡ t ∷ r ∷ f ∷ arguments → edge_of i (Some x) ≡ Some (x, f)
       edge-is i x t r f arguments o a = rw (o, a) refl

@@ -5,7 +5,6 @@ use Rattle.std.proofs.lemmas.Bool.{cases_lt}
 use Rattle.std.proofs.lemmas.Option.{slice_get_read}
 use Rattle.spirv_words.specs.declared.images.Instruction.{Instruction}
 use Rattle.spirv_words.specs.Machine.{if_some}
-use Rattle.run_rooms.specs.Widths.{in_word}
 use Rattle.run_rooms.specs.Layout.{IsTable}
 
 pub table-more : (f : ℕ → ℕ) (k w : ℕ) (xs : List ℕ) → IsTable f k xs → w ≡ f k → IsTable f (k + 1) (xs ++ w ∷ [])
@@ -17,15 +16,10 @@ table-more f k w xs t e = record {
   ];
 }
 
--- a number that is told within 32 bits
-pub word-is : (n w : ℕ) → in_word n ≡ Some w → n ≡ w
-word-is n w h = elim (nat_lt n (2 ^ 32)) as (λ b. cond b (Some n) None ≡ Some w → n ≡ w) [ true ↦ λ e. cc | false ↦ λ e. cc ] h
-
 -- a table of words of instructions, by one instruction more
-pub words-more : (code items : List Instruction) (words : Instruction → ℕ) (k w : ℕ) (i : Instruction) (xs : List ℕ) (o : Option ℕ) → items ≡ code → k < length code
-    → i ≡ get_or items k i → o ≡ Some w → o ≡ in_word (words i) → IsTable (λ k. if_some (slice_get code k) 0 words) k xs
+pub words-more : (code items : List Instruction) (words : Instruction → ℕ) (k w : ℕ) (i : Instruction) (xs : List ℕ) → items ≡ code → k < length code
+    → i ≡ get_or items k i → w ≡ words i → IsTable (λ k. if_some (slice_get code k) 0 words) k xs
     → IsTable (λ k. if_some (slice_get code k) 0 words) (k + 1) (xs ++ w ∷ [])
-words-more code items words k w i xs o e lt it so iw t =
+words-more code items words k w i xs e lt it is t =
     let at : slice_get code k ≡ Some i = slice_get_read code (length code) k i refl lt (it ∙ ap (λ (l : List Instruction). get_or l k i) e) in
-    let is : words i ≡ w = word-is (words i) w (sym iw ∙ so) in
-    table-more (λ k. if_some (slice_get code k) 0 words) k w xs t (sym is ∙ sym (ap (λ o. if_some o 0 words) at))
+    table-more (λ k. if_some (slice_get code k) 0 words) k w xs t (is ∙ sym (ap (λ o. if_some o 0 words) at))

@@ -5,3 +5,6 @@ pub mod Apart
 pub mod Growing
 pub mod Whole
 pub mod Cycles
+pub mod Narrow
+pub mod Chained
+pub mod Listed

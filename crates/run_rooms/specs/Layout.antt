@@ -125,14 +125,17 @@ pub record AreOffsets (homes words offsets sums : List ℕ) : Type 0 where
   pub offset : IsTable (λ k. before (slice_index homes) (slice_index words) (slice_index homes k) k) (length homes) offsets
   pub sum : IsTable (λ f. before (slice_index homes) (slice_index words) f (length homes)) (suc (length homes)) sums
 
--- the parts of functions with so many words of variables and of values: that outside of functions begins at 0, and the others
--- behind its end
-pub record AreParts (rooms_sums slots_sums : List ℕ) (parts : List Part) : Type 0 where
-  pub filled : (f : ℕ) → f < length rooms_sums → IsFilled (lead f) (slice_index rooms_sums f) (slice_index slots_sums f) (part_in parts f)
-  pub first : (part_in parts 0).begin ≡ 0
-  pub behind : (f : ℕ) → suc f < length rooms_sums → (part_in parts 0).end ≤ (part_in parts (suc f)).begin
+-- the words of a function, by those of its variables and of its values
+abbrev pub summed : List ℕ → List ℕ → ℕ → ℕ
+summed rooms_sums slots_sums f = lead f + slice_index rooms_sums f + 2 + slice_index slots_sums f
 
--- each function ends before those that it calls begin, where instructions are in these functions
-pub record AreBehind (code : List Instruction) (homes : List ℕ) (parts : List Part) : Type 0 where
-  pub callees : (k callee : ℕ) (i : Instruction) → k < length homes → slice_get code k ≡ Some i → called code i ≡ Some callee
-      → (part_in parts (slice_index homes k)).end ≤ (part_in parts callee).begin
+-- some function has more words than 32 bits tell
+pub record HasFarSum (n : ℕ) (words : ℕ → ℕ) : Type 0 where
+  pub function : ℕ
+  pub within : function < n
+  pub far : 2 ^ 32 ≤ words function
+
+-- the parts of functions with so many words of variables and of values, which begin there
+pub record AreParts (begins rooms_sums slots_sums : List ℕ) (parts : List Part) : Type 0 where
+  pub filled : (f : ℕ) → f < length rooms_sums → IsFilled (lead f) (slice_index rooms_sums f) (slice_index slots_sums f) (part_in parts f)
+  pub begin : (f : ℕ) → f < length rooms_sums → (part_in parts f).begin ≡ slice_index begins f

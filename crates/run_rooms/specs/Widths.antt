@@ -1,5 +1,5 @@
 -- How many words the types of an image take, as far as 32 bits tell.
-use Rattle.std.specs.Prelude.{◌≡◌, ℕ, ◌+◌, ◌^◌, min, cond, nat_eq, nat_lt, List, [], ◌∷◌, Option, Some, None}
+use Rattle.std.specs.Prelude.{◌≡◌, ℕ, ◌+◌, ◌^◌, ◌<◌, min, cond, nat_eq, nat_lt, List, [], ◌∷◌, Option, Some, None}
 use Rattle.std.specs.Option.{option_map}
 use Rattle.std.specs.HashMap.{get}
 use Rattle.spirv_words.specs.Machine.{Shape, Plain, Globals, Meaning, IsType, IsValue, Unknown, zero_of, number_at, if_some}
@@ -32,6 +32,15 @@ number_in (Some n) = n
 pub record Measures (w : Widths) (g : Globals) : Type 0 where
   pub types : (t : ℕ) → get nat_eq w.types t ≡ option_map measure (g.shapes t)
   pub numbers : (x : ℕ) → number_in (get nat_eq w.numbers x) ≡ number_at (g.ids x)
+
+-- 32 bits tell the words of all types
+abbrev pub AreNarrow : Widths → Type 0
+AreNarrow w = (t : ℕ) (m : TypeWords) → get nat_eq w.types t ≡ Some m → m.words < 2 ^ 32
+
+-- the words of each type are told as they are
+pub record Tells (w : Widths) (g : Globals) : Type 0 where
+  pub measures : Measures w g
+  pub narrow : AreNarrow w
 
 -- a number of 32 bits
 abbrev pub in_word : ℕ → Option ℕ

@@ -1,19 +1,21 @@
 // Which functions are called, by their numbers.
 
-ghost use Rattle.std.specs.Prelude.{◌≡◌, ◌<◌, ◌≤◌, ℕ, suc, Some, true, length, slice_index};
-ghost use Rattle.spirv_words.specs.declared.images.Instruction.{Instruction};
+ghost use Rattle.std.specs.Prelude.{◌≡◌, ◌^◌, ◌<◌, ◌≤◌, ℕ, suc, length, IfOk, IfSome};
 ghost use Rattle.std.specs.Option.{option_map};
 ghost use Rattle.spirv_words.specs.declared.opcodes.Op.TheVariants.{FunctionCall};
 ghost use Rattle.spirv_words.specs.Machine.{place_of};
-ghost use Rattle.run_rooms.specs.Layout.{called, called_by, part_in, AreBehind};
+ghost use Rattle.image_places.specs.Places.{function_of};
+ghost use Rattle.run_rooms.specs.Layout.{called, called_by, IsTable};
+ghost use Rattle.run_rooms.specs.Calls.{AreCalls};
 
-use crate::parts::{Part, part_at};
 use image_lookup::Definitions;
 use spirv_words::{Instruction, Op};
+use std::alloc::{AllocError, Global};
 
 /// The number of the function that an instruction calls, counted from 1 on, if it is a call.
-pub fn called(definitions: &Definitions, instruction: &Instruction) -> Option<usize>
-    ensures { result ≡ called definitions.now instruction.now }
+fn called(definitions: &Definitions, instruction: &Instruction) -> Option<usize>
+    ensures called { result ≡ called definitions.now instruction.now }
+    ensures within { IfSome result (λ number. number ≤ length definitions.now) }
 {
     match instruction.op {
         Op::FunctionCall => place_called(definitions, instruction.operands.as_slice()),
@@ -22,7 +24,8 @@ pub fn called(definitions: &Definitions, instruction: &Instruction) -> Option<us
 }
 
 fn place_called(definitions: &Definitions, operands: &[u32]) -> Option<usize>
-    ensures { result ≡ called_by definitions.now FunctionCall operands.now }
+    ensures called { result ≡ called_by definitions.now FunctionCall operands.now }
+    ensures within { IfSome result (λ number. number ≤ length definitions.now) }
 {
     match operands {
         [_, _, function, ..] => number_of(definitions, *function),
@@ -32,7 +35,8 @@ fn place_called(definitions: &Definitions, operands: &[u32]) -> Option<usize>
 
 /// The number of the instruction that defines an id, counted from 1 on.
 fn number_of(definitions: &Definitions, id: u32) -> Option<usize>
-    ensures { result ≡ option_map suc (place_of definitions.now id 0) }
+    ensures number { result ≡ option_map suc (place_of definitions.now id 0) }
+    ensures within { IfSome result (λ number. number ≤ length definitions.now) }
 {
     match definitions.place(id) {
         Some(place) => {
@@ -46,31 +50,22 @@ fn number_of(definitions: &Definitions, id: u32) -> Option<usize>
     }
 }
 
-/// Whether each function ends before those that it calls begin.
-pub fn callees_are_behind(definitions: &Definitions, homes: &[usize], parts: &[Part]) -> bool
-    ensures { result ≡ true → AreBehind definitions.now homes.now parts.now }
-{
-    for (number, instruction) in definitions.code().iter().enumerate() {
-        if !is_behind(definitions, homes, parts, number, instruction) {
-            return false;
-        }
-    }
-    true
-}
-
-/// Whether a function ends before the one begins that this instruction of it calls, if it is a call.
-fn is_behind(
+/// All calls, by the numbers of the functions that call and of those that are called.
+pub fn edges(
+    alloc: Global,
     definitions: &Definitions,
     homes: &[usize],
-    parts: &[Part],
-    number: usize,
-    instruction: &Instruction,
-) -> bool
-    ensures { result ≡ true → (callee : ℕ) → number < length homes.now → called definitions.now instruction.now ≡ Some callee
-        → (part_in parts.now (slice_index homes.now number)).end ≤ (part_in parts.now callee).begin }
+) -> Result<Vec<(u32, u32)>, AllocError>
+    requires homes { IsTable (function_of definitions.now) (length definitions.now) homes.now }
+    requires few { length definitions.now < 2 ^ 32 }
+    ensures { IfOk result (λ edges. AreCalls definitions.now (length definitions.now) edges.items) }
 {
-    match (called(definitions, instruction), homes.get(number)) {
-        (Some(callee), Some(home)) => part_at(parts, *home).end <= part_at(parts, callee).begin,
-        _ => true,
+    let mut edges = Vec::new(alloc);
+    for (number, instruction) in definitions.code().iter().enumerate() {
+        match called(definitions, instruction) {
+            Some(callee) => edges.push((homes[number] as u32, callee as u32))?,
+            None => {}
+        }
     }
+    Ok(edges)
 }

@@ -4,11 +4,11 @@
 mod calls;
 mod laws;
 mod offsets;
-mod order;
 mod parts;
 mod places;
 mod tables;
 mod widths;
 mod words;
 
+pub use call_layout::Fault;
 pub use places::Places;

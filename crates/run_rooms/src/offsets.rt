@@ -1,9 +1,12 @@
 // Where words stand in their function.
 
-ghost use Rattle.std.specs.Prelude.{◌≡◌, ◌+◌, ◌<◌, ◌≤◌, ℕ, length, IfOk, slice_index};
-ghost use Rattle.run_rooms.specs.Layout.{AreOffsets};
+ghost use Rattle.std.specs.Prelude.{◌≡◌, ◌<◌, ◌≤◌, ℕ, suc, length, IfOk, IfErr, slice_index};
+ghost use Rattle.call_layout.specs.declared.faults.Fault.TheVariants.{TooLarge};
+ghost use Rattle.run_rooms.specs.Sums.{before};
+ghost use Rattle.run_rooms.specs.Layout.{AreOffsets, HasFarSum};
 
-use std::alloc::{AllocError, Global};
+use call_layout::Fault;
+use std::alloc::Global;
 
 /// The words before each instruction in its function, and those of each function, by their numbers.
 #[derive(Drop)]
@@ -12,25 +15,23 @@ pub struct Offsets {
     pub sums: Vec<u32>,
 }
 
-/// A sum, if 32 bits tell it: a run has no more words.
-pub fn sum(a: u32, b: u32) -> Result<u32, AllocError>
-    ensures { IfOk result (λ n. n ≡ a + b) }
-{
-    a.checked_add(b).ok_or(AllocError)
-}
-
 /// Counts the words of instructions by their functions, if 32 bits tell it.
-pub fn offsets_of(alloc: Global, homes: &[usize], words: &[u32]) -> Result<Offsets, AllocError>
+pub fn offsets_of(alloc: Global, homes: &[usize], words: &[u32]) -> Result<Offsets, Fault>
     requires as_many { length homes.now ≡ length words.now }
     requires known { (k : ℕ) → k < length homes.now → slice_index homes.now k ≤ length homes.now }
-    ensures { IfOk result (λ o. AreOffsets homes.now words.now o.offsets.items o.sums.items) }
+    ensures offsets { IfOk result (λ o. AreOffsets homes.now words.now o.offsets.items o.sums.items) }
+    ensures too_large { IfErr result (λ fault. fault ≡ TooLarge
+        → HasFarSum (suc (length homes.now)) (λ f. before (slice_index homes.now) (slice_index words.now) f (length homes.now))) }
 {
-    let mut sums = vec![in alloc; 0; homes.len()]?;
+    let mut sums = vec![in alloc; 0u32; homes.len()]?;
     sums.push(0)?;
     let mut offsets = Vec::new(alloc);
     for (number, home) in homes.iter().enumerate() {
         offsets.push(sums[*home])?;
-        sums[*home] = sum(sums[*home], words[number])?;
+        match sums[*home].checked_add(words[number]) {
+            Some(sum) => sums[*home] = sum,
+            None => return Err(Fault::TooLarge),
+        }
     }
     Ok(Offsets { offsets, sums })
 }

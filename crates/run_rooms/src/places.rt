@@ -1,20 +1,24 @@
 // The places of all values of a run.
 
-ghost use Rattle.std.specs.Prelude.{◌≡◌, ℕ, [], List, IfOk, is_some};
-ghost use Rattle.spirv_words.specs.Machine.{if_some};
+ghost use Rattle.std.specs.Prelude.{◌≡◌, ◌^◌, ◌<◌, ℕ, [], List, length, Some, IfOk, IfErr, is_some};
+ghost use Rattle.spirv_words.specs.Machine.{Shape, if_some};
 ghost use Rattle.flat_values.specs.Flat.{width};
 ghost use Rattle.image_facts.specs.Operands.{shape};
+ghost use Rattle.call_layout.specs.declared.faults.Fault.TheVariants.{TooLarge};
+ghost use Rattle.run_rooms.specs.Valid.{IsOfValid};
 ghost use Rattle.run_rooms.specs.Rooms.{AreRooms, size_of};
-ghost use Rattle.run_rooms.specs.Widths.{in_word};
+ghost use Rattle.run_rooms.specs.Needs.{NeedsTooMuch};
 ghost use Rattle.run_rooms.specs.Layout.{rooms_in, part_in};
 
+use crate::laws::calls_of_valid_images;
 use crate::parts::{Part, number_at, part_at};
 use crate::tables::{Tables, tables_of};
 use crate::widths::Widths;
 use crate::words::size_of;
+use call_layout::Fault;
 use image_declarations::Declarations;
 use spirv_words::Instruction;
-use std::alloc::{AllocError, Global};
+use std::alloc::Global;
 use std::marker::Model;
 
 /// Where each value of an image stands among the words of a run. Contracts see the instructions and the places.
@@ -38,14 +42,23 @@ impl<'a> Model for Places<'a> {
 }
 
 impl<'a> Places<'a> {
-    /// A place for each value of these instructions. It errs for want of memory, also where 32 bits do not tell all words, and
-    /// where calls lead back to their own function.
-    pub fn new(alloc: Global, code: &'a [Instruction]) -> Result<Places<'a>, AllocError>
+    /// A place for each value of these instructions. It errs for want of memory, and where a run needs more words than 32 bits
+    /// tell.
+    pub fn new(alloc: Global, code: &'a [Instruction]) -> Result<Places<'a>, Fault>
+        requires valid { IsOfValid code.now }
         ensures code { IfOk result (λ p. p.code ≡ code.now) }
         ensures rooms { IfOk result (λ p. (pairs : List (ℕ × ℕ)) → AreRooms code.now (rooms_in p pairs)) }
+        ensures few { IfOk result (λ p. length code.now < 2 ^ 32) }
+        ensures narrow { IfOk result (λ p. (t : ℕ) (s : Shape) → shape code.now t ≡ Some s → width s < 2 ^ 32) }
+        ensures enough { IfOk result (λ p. NeedsTooMuch code.now → ⊥) }
+        ensures too_large { IfErr result (λ fault. fault ≡ TooLarge → NeedsTooMuch code.now) }
     {
+        calls_of_valid_images();
+        if code.len() >= 0x1_0000_0000 {
+            return Err(Fault::TooLarge);
+        }
         let declarations = Declarations::new(alloc, code)?;
-        let widths = Widths::new(alloc, code)?;
+        let widths = Widths::narrow(alloc, code)?;
         let tables = tables_of(alloc, declarations.definitions(), &widths)?;
         Ok(Places {
             declarations,
@@ -122,9 +135,9 @@ impl<'a> Places<'a> {
         self.tables.total
     }
 
-    /// How many words an id of a type has, if 32 bits tell it.
-    pub fn size_of(&self, id: u32) -> Option<u32>
-        ensures { result ≡ in_word (size_of self.now.code id) }
+    /// How many words an id of a type has.
+    pub fn size_of(&self, id: u32) -> u32
+        ensures { result ≡ size_of self.now.code id }
     {
         size_of(self.declarations.definitions(), &self.widths, id)
     }
@@ -136,9 +149,9 @@ impl<'a> Places<'a> {
         self.widths.has(id)
     }
 
-    /// How many words the values of a type have, if 32 bits tell it; none for a pointer.
-    pub fn width_of(&self, id: u32) -> Option<u32>
-        ensures { result ≡ in_word (if_some (shape self.now.code id) 0 width) }
+    /// How many words the values of a type have; none for a pointer.
+    pub fn width_of(&self, id: u32) -> u32
+        ensures { result ≡ if_some (shape self.now.code id) 0 width }
     {
         self.widths.of(id)
     }

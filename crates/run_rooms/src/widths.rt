@@ -1,16 +1,19 @@
 // How many words values take, by their types, as the declarations of an image tell it.
 
-ghost use Rattle.std.specs.Prelude.{◌≡◌, ℕ, ◌≤◌, ◌^◌, IfOk, OnOk, is_some, min, List, nat_eq};
+ghost use Rattle.std.specs.Prelude.{◌≡◌, ℕ, ◌<◌, ◌≤◌, ◌^◌, IfOk, IfErr, OnOk, Some, true, false, is_some, min, List, nat_eq};
 ghost use Rattle.std.specs.HashMap.{get};
 ghost use Rattle.std.specs.Option.{option_map};
 ghost use Rattle.spirv_words.specs.declared.images.Instruction.{Instruction};
 ghost use Rattle.spirv_words.specs.declared.opcodes.Op.TheVariants.{TypeVoid, TypeBool, TypeInt, TypeVector, TypeArray, TypeRuntimeArray, TypeStruct, TypePointer, ConstantTrue, ConstantFalse, Constant, ConstantNull, Variable};
-ghost use Rattle.spirv_words.specs.Machine.{Globals, Repeated, on_shape, null, global_variable, meaning_of, add, result_of, if_some, number_at, is_function};
+ghost use Rattle.spirv_words.specs.Machine.{Globals, Shape, Repeated, on_shape, null, global_variable, meaning_of, add, result_of, if_some, number_at, is_function};
 ghost use Rattle.flat_values.specs.Flat.{width};
 ghost use Rattle.image_facts.specs.Operands.{globals_of, shape};
 ghost use Rattle.run_rooms.specs.declared.widths.Declared.TheVariants.{AType};
-ghost use Rattle.run_rooms.specs.Widths.{measure, members_words, measured, Measures, number_in, in_word};
+ghost use Rattle.run_rooms.specs.Widths.{measure, members_words, measured, AreNarrow, Measures, Tells, number_in};
+ghost use Rattle.run_rooms.specs.Needs.{HasWideType, IsNarrow};
+ghost use Rattle.call_layout.specs.declared.faults.Fault.TheVariants.{TooLarge};
 
+use call_layout::Fault;
 use image_places::result_of;
 use spirv_words::{Instruction, Op};
 use std::alloc::{AllocError, Global};
@@ -268,6 +271,35 @@ fn add(widths: &mut Widths, instruction: &Instruction) -> Result<(), AllocError>
     Ok(())
 }
 
+/// Whether an instruction declares a type whose words 32 bits do not tell.
+fn is_wide(widths: &Widths, instruction: &Instruction) -> bool
+    ensures wide { (code : List Instruction) → Measures widths.now (globals_of code) → result ≡ true → HasWideType code }
+    ensures narrow { (g : Globals) → Measures widths.now g → result ≡ false → (t : ℕ) (s : Shape)
+        → result_of instruction.now.op instruction.now.operands ≡ Some t → g.shapes t ≡ Some s → width s < 2 ^ 32 }
+{
+    match result_of(instruction.op, instruction.operands.as_slice()) {
+        Some(id) => match type_at(widths, id) {
+            Some(part) => part.words >= FAR,
+            None => false,
+        },
+        None => false,
+    }
+}
+
+/// Whether 32 bits tell the words of all types.
+fn are_narrow(widths: &Widths, code: &[Instruction]) -> bool
+    requires { Measures widths.now (globals_of code.now) }
+    ensures narrow { result ≡ true → IsNarrow code.now }
+    ensures wide { result ≡ false → HasWideType code.now }
+{
+    for instruction in code {
+        if is_wide(widths, instruction) {
+            return false;
+        }
+    }
+    true
+}
+
 fn is_function(instruction: &Instruction) -> bool
     ensures { result ≡ is_function instruction.now.op }
 {
@@ -295,6 +327,20 @@ impl Widths {
         Ok(widths)
     }
 
+    /// The same, if 32 bits tell the words of all types.
+    pub fn narrow(alloc: Global, code: &[Instruction]) -> Result<Widths, Fault>
+        ensures tells { IfOk result (λ widths. Tells widths (globals_of code.now)) }
+        ensures narrow { IfOk result (λ widths. IsNarrow code.now) }
+        ensures too_large { IfErr result (λ fault. fault ≡ TooLarge → HasWideType code.now) }
+    {
+        let widths = Widths::new(alloc, code)?;
+        if are_narrow(&widths, code) {
+            Ok(widths)
+        } else {
+            Err(Fault::TooLarge)
+        }
+    }
+
     /// Whether an id is a type with a shape.
     pub fn has(&self, id: u32) -> bool
         ensures { (g : Globals) → Measures self.now g → result ≡ is_some (g.shapes id) }
@@ -302,13 +348,14 @@ impl Widths {
         type_at(self, id).is_some()
     }
 
-    /// How many words the values of a type have, if 32 bits tell it; 0 for what is no type.
-    pub fn of(&self, id: u32) -> Option<u32>
-        ensures { (g : Globals) → Measures self.now g → result ≡ in_word (if_some (g.shapes id) 0 width) }
+    /// How many words the values of a type have; 0 for what is no type.
+    pub fn of(&self, id: u32) -> u32
+        requires { AreNarrow self.now }
+        ensures { (g : Globals) → Measures self.now g → result ≡ if_some (g.shapes id) 0 width }
     {
         match type_at(self, id) {
-            Some(part) => u32::try_from(part.words).ok(),
-            None => Some(0),
+            Some(part) => part.words as u32,
+            None => 0,
         }
     }
 }

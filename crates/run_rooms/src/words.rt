@@ -4,7 +4,7 @@ ghost use Rattle.std.specs.Prelude.{◌≡◌, length, IfOk, Some};
 ghost use Rattle.image_facts.specs.Operands.{globals_of};
 ghost use Rattle.image_places.specs.Places.{function_of, under_function};
 ghost use Rattle.run_rooms.specs.Rooms.{size_of};
-ghost use Rattle.run_rooms.specs.Widths.{Measures, in_word};
+ghost use Rattle.run_rooms.specs.Widths.{Tells};
 ghost use Rattle.run_rooms.specs.Layout.{slot_words, room_words, slot_words_at, room_words_at, IsTable};
 
 use crate::widths::Widths;
@@ -13,17 +13,17 @@ use image_lookup::{Definitions, Sort, sort_of};
 use spirv_words::{Instruction, Op};
 use std::alloc::{AllocError, Global};
 
-/// How many words an operand of a type has, if 32 bits tell it: two for a pointer into a buffer, and one for another pointer.
-pub fn size_of(definitions: &Definitions, widths: &Widths, id: u32) -> Option<u32>
-    requires { Measures widths.now (globals_of definitions.now) }
-    ensures { result ≡ in_word (size_of definitions.now id) }
+/// How many words an operand of a type has: two for a pointer into a buffer, and one for another pointer.
+pub fn size_of(definitions: &Definitions, widths: &Widths, id: u32) -> u32
+    requires { Tells widths.now (globals_of definitions.now) }
+    ensures { result ≡ size_of definitions.now id }
 {
     match definitions.sort(id) {
         Sort::PointerType => {
             if is_buffer_class(definitions.operand(id, 1)) {
-                Some(2)
+                2
             } else {
-                Some(1)
+                1
             }
         }
         _ => widths.of(id),
@@ -31,31 +31,31 @@ pub fn size_of(definitions: &Definitions, widths: &Widths, id: u32) -> Option<u3
 }
 
 /// How many words the result of an instruction has; 0 where it is no value.
-fn slot_words(definitions: &Definitions, widths: &Widths, instruction: &Instruction) -> Option<u32>
-    requires { Measures widths.now (globals_of definitions.now) }
-    ensures { result ≡ in_word (slot_words definitions.now instruction.now) }
+fn slot_words(definitions: &Definitions, widths: &Widths, instruction: &Instruction) -> u32
+    requires { Tells widths.now (globals_of definitions.now) }
+    ensures { result ≡ slot_words definitions.now instruction.now }
 {
     if sort_of(instruction.op).is_value() {
         size_of(definitions, widths, operand_of(instruction, 0))
     } else {
-        Some(0)
+        0
     }
 }
 
 /// How many words the variable of a function holds that an instruction declares; 0 for another instruction.
-fn room_words(definitions: &Definitions, widths: &Widths, instruction: &Instruction) -> Option<u32>
-    requires { Measures widths.now (globals_of definitions.now) }
-    ensures { result ≡ in_word (room_words definitions.now instruction.now) }
+fn room_words(definitions: &Definitions, widths: &Widths, instruction: &Instruction) -> u32
+    requires { Tells widths.now (globals_of definitions.now) }
+    ensures { result ≡ room_words definitions.now instruction.now }
 {
     match sort_of(instruction.op) {
         Sort::Holder => {
             if operand_of(instruction, 2) == 7 {
                 widths.of(definitions.operand(operand_of(instruction, 0), 2))
             } else {
-                Some(0)
+                0
             }
         }
-        _ => Some(0),
+        _ => 0,
     }
 }
 
@@ -65,13 +65,12 @@ pub fn slot_table(
     definitions: &Definitions,
     widths: &Widths,
 ) -> Result<Vec<u32>, AllocError>
-    requires { Measures widths.now (globals_of definitions.now) }
+    requires { Tells widths.now (globals_of definitions.now) }
     ensures { IfOk result (λ table. IsTable (slot_words_at definitions.now) (length definitions.now) table.items) }
 {
     let mut table = Vec::new(alloc);
     for instruction in definitions.code() {
-        let words = slot_words(definitions, widths, instruction).ok_or(AllocError)?;
-        table.push(words)?;
+        table.push(slot_words(definitions, widths, instruction))?;
     }
     Ok(table)
 }
@@ -82,13 +81,12 @@ pub fn room_table(
     definitions: &Definitions,
     widths: &Widths,
 ) -> Result<Vec<u32>, AllocError>
-    requires { Measures widths.now (globals_of definitions.now) }
+    requires { Tells widths.now (globals_of definitions.now) }
     ensures { IfOk result (λ table. IsTable (room_words_at definitions.now) (length definitions.now) table.items) }
 {
     let mut table = Vec::new(alloc);
     for instruction in definitions.code() {
-        let words = room_words(definitions, widths, instruction).ok_or(AllocError)?;
-        table.push(words)?;
+        table.push(room_words(definitions, widths, instruction))?;
     }
     Ok(table)
 }

@@ -1,6 +1,6 @@
-use Rattle.std.proofs.Common.{◌<◌, ◌+◌, ℕ, List, length, arith, sym, subst}
+use Rattle.std.proofs.Common.{◌<◌, length, arith}
 use Rattle.std.proofs.lemmas.Grind.{common_steps}
-use Rattle.run_rooms.specs.Layout.{IsTable, slot_words, slot_words_at}
+use Rattle.run_rooms.specs.Layout.{slot_words}
 use Rattle.run_rooms.proofs.Growing.{words-more}
 use Rattle.run_rooms.proofs.words.slot_table.Goals as goal
 
@@ -10,6 +10,6 @@ loop-instruction-preserved c =
     let k = c.loop-instruction.instruction-index in
     let items = c.code-instruction-items.result.now in
     let lt : k < length code = grind (arith, common_steps) in
-    subst (λ (xs : List ℕ). IsTable (slot_words_at code) (k + 1) xs) (sym c.in_ok-push.ensures.items)
-    (words-more code items (slot_words code) k c.in_ok-words.words c.instruction-item.result c.loop-instruction.table.items c.slot_words.result
-    c.code-instruction-items.ensures lt c.instruction-item.is c.in_ok-words.ensures.ok_part c.slot_words.ensures c.loop-instruction.invariant)
+    rw (c.in_ok-push.ensures.items)
+    (words-more code items (slot_words code) k c.slot_words.result c.instruction-item.result c.loop-instruction.table.items
+    c.code-instruction-items.ensures lt c.instruction-item.is c.slot_words.ensures c.loop-instruction.invariant)
