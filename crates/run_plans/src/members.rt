@@ -12,10 +12,7 @@ use std::collections::HashMap;
 fn behind(places: &Places, place: u32, type_id: u32) -> Option<u32>
     ensures { IsBehindIf places.now.code place type_id result }
 {
-    match places.width_of(type_id) {
-        Some(width) => place.checked_add(width),
-        None => None,
-    }
+    place.checked_add(places.width_of(type_id))
 }
 
 /// The places of members of these types, as far as 32 bits tell them.

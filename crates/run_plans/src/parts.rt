@@ -20,29 +20,20 @@ pub struct Part {
 
 /// How many words the values of a type have.
 pub fn width_of(places: &Ground, type_id: u32) -> u32
-    requires ground { IsGround places.now }
     ensures { result ≡ width_at places.now.places.code type_id }
 {
-    match places.places.width_of(type_id) {
-        Some(width) => width,
-        None => unreachable!(),
-    }
+    places.places.width_of(type_id)
 }
 
 /// How many words an operand of a type has.
 pub fn size_of(places: &Ground, type_id: u32) -> u32
-    requires ground { IsGround places.now }
     ensures { result ≡ size_of places.now.places.code type_id }
 {
-    match places.places.size_of(type_id) {
-        Some(size) => size,
-        None => unreachable!(),
-    }
+    places.places.size_of(type_id)
 }
 
 /// How many words an id has.
 pub fn slot_size(places: &Ground, id: u32) -> u32
-    requires ground { IsGround places.now }
     ensures { result ≡ slot_size places.now.places.code id }
 {
     size_of(places, places.declarations().operand(id, 0))

@@ -30,7 +30,7 @@ overflow_add-result c =
     let size = data_width code c.requires.ground.valid (type_id code x) c.requires.whole in
     let inside = subst (λ (t : ℕ). c.part_behind-part.result.place + width_at code c.part_behind-part.result.type_id ≤ width_at code t) whole
         c.part_behind-part.ensures.inside in
-    below _ _ _ _ _ _ c.slot.ensures inside size room
+    record { fits = below _ _ _ _ _ _ c.slot.ensures inside size room }
   where
     below : (s p w a n slot : ℕ) → s ≡ slot → p + w ≤ a → n ≡ a → slot + n < 2 ^ 32 → s + p < 2 ^ 32
     below s p w a n slot e i f r = omega arith
