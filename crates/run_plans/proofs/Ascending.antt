@@ -25,7 +25,7 @@ use Rattle.spirv_check.specs.Valid.{Valid}
 use Rattle.run_plans.specs.declared.base.Bound.{Bound}
 use Rattle.run_plans.specs.Plans.{set_of, binding_of}
 use Rattle.run_plans.specs.Ground.{pair_of}
-use Rattle.run_plans.specs.Walks.{IsOfValid}
+use Rattle.run_rooms.specs.Valid.{IsOfValid}
 use Rattle.run_plans.specs.Buffers.{bound_of, bound_if, listed, bounds_at, bounds_in, IsBefore, Ascends}
 use Rattle.run_plans.proofs.Placed.{some_same}
 

@@ -20,7 +20,7 @@ use Rattle.image_facts.proofs.Buffers.{buffer-type-reached}
 use Rattle.image_facts.proofs.Reaching.{struct-kind, reach-extent}
 use Rattle.run_plans.specs.declared.base.Bound.{Bound}
 use Rattle.run_plans.specs.Plans.{needs, needed_words}
-use Rattle.run_plans.specs.Walks.{IsOfValid}
+use Rattle.run_rooms.specs.Valid.{IsOfValid}
 use Rattle.run_plans.specs.Grounds.{AreNear}
 use Rattle.run_plans.specs.Buffers.{bound_of, bound_if, listed, bounds_at, bounds_in, Ascends, same_bound, AreBounds}
 use Rattle.run_plans.proofs.Placed.{some_same}

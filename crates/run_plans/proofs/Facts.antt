@@ -14,7 +14,8 @@ use Rattle.image_facts.specs.Shaped.{IsRepeated, IsUnbounded, IsFields, HasData}
 use Rattle.image_facts.proofs.Shapes.{shape-bool, shape-int, shape-vector}
 use Rattle.image_facts.proofs.Data.{shape-array, shape-runtime, shape-struct, data-shape}
 use Rattle.image_facts.proofs.Values.{signed-is}
-use Rattle.run_plans.specs.Walks.{IsOfValid, HasShape}
+use Rattle.run_rooms.specs.Valid.{IsOfValid}
+use Rattle.run_plans.specs.Walks.{HasShape}
 
 module _ (code : List Instruction) (v : IsOfValid code) where
   pub bool_shape : (t : ℕ) → sort code t ≡ BoolType → shape code t ≡ Some Truths

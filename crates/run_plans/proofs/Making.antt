@@ -33,7 +33,7 @@ use Rattle.spirv_check.specs.Valid.{Valid}
 use Rattle.run_rooms.specs.Rooms.{Rooms, AreRooms, Slot, size_of, slot_size, home_of}
 use Rattle.run_plans.specs.declared.base.Bound.{Bound}
 use Rattle.run_plans.specs.Plans.{set_of, binding_of}
-use Rattle.run_plans.specs.Walks.{IsOfValid}
+use Rattle.run_rooms.specs.Valid.{IsOfValid}
 use Rattle.run_plans.specs.Values.{number_of, value_words, variable_words, IsMade}
 use Rattle.run_plans.proofs.Placed.{some_same}
 

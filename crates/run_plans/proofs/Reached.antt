@@ -19,7 +19,7 @@ use Rattle.image_facts.proofs.Sorts.{sorted}
 use Rattle.image_facts.proofs.Reaching.{Cases, by-cases}
 use Rattle.image_facts.proofs.Buffers.{reached-kind}
 use Rattle.spirv_check.specs.Valid.{Valid}
-use Rattle.run_plans.specs.Walks.{IsOfValid}
+use Rattle.run_rooms.specs.Valid.{IsOfValid}
 use Rattle.run_plans.specs.Grounds.{is_near, AreNear, IsFar}
 
 standing_first : (op : Op) → is_type_sort (sort_of op) ≡ true → standing op ≡ First

@@ -7,7 +7,8 @@ use Rattle.image_lookup.specs.Lookups.{is_value}
 use Rattle.image_declarations.specs.Holdings.{is_data}
 use Rattle.run_rooms.specs.Rooms.{Rooms, AreRooms, size_of, slot_size}
 use Rattle.run_rooms.proofs.Defined.{value-placed}
-use Rattle.run_plans.specs.Walks.{IsOfValid, width_at}
+use Rattle.run_rooms.specs.Valid.{IsOfValid}
+use Rattle.run_plans.specs.Walks.{width_at}
 use Rattle.run_plans.proofs.Facts.{data_shape}
 use Rattle.run_plans.proofs.Fitting.{slot_inside, data_size}
 

@@ -1,5 +1,5 @@
 -- Steps of chains lead where indices lead.
-use Rattle.std.proofs.Common.{◌≡◌, ◌≢◌, ℕ, ◌+◌, ◌/◌, ◌%◌, Bool, true, false, cond, List, [], ◌∷◌, drop, take, slice_get, Option, Some, None, Result, Ok, Err, IfOk, refl, sym, ap, ◌∙◌, subst, arith}
+use Rattle.std.proofs.Common.{◌≡◌, ◌≢◌, ℕ, ◌+◌, ◌/◌, ◌%◌, Bool, true, false, cond, List, [], ◌∷◌, drop, take, slice_get, Option, Some, None, refl, sym, ap, ◌∙◌, subst, arith}
 use Rattle.std.specs.Prelude.{nat_eq}
 use Rattle.std.proofs.lemmas.Bool.{ne_eqb}
 use Rattle.spirv_words.specs.declared.images.Instruction.{Instruction}
@@ -160,16 +160,14 @@ module _ (code : List Instruction) (L : Rooms) where
             ∙ not_words (offset_of code t number) (λ o. moved o (buffer_plan at.form (items code L at.form is))) broken);
       }
 
-  -- the same of the results of calls
-  pub repeated_steps : {E : Type 0} (in_buffer : Bool) (t n bytes i : ℕ) (r : Result (Option Step) E) → IsRepeated code t n bytes
-      → IfOk r (IsElementStepIf code L in_buffer (operand code t 1) (Fixed n) bytes i) → IfOk r (IsStepIf code L in_buffer t i)
-  repeated_steps in_buffer t n bytes i (Ok (Some step)) is e = repeated_step in_buffer t n bytes i step is e
-  repeated_steps in_buffer t n bytes i (Ok None) is e = repeated_ends in_buffer t n bytes i is e
-  repeated_steps in_buffer t n bytes i (Err e) is h = tt
+  -- the same of steps that may be none
+  pub repeated_if : (in_buffer : Bool) (t n bytes i : ℕ) (o : Option Step) → IsRepeated code t n bytes
+      → IsElementStepIf code L in_buffer (operand code t 1) (Fixed n) bytes i o → IsStepIf code L in_buffer t i o
+  repeated_if in_buffer t n bytes i (Some step) is e = repeated_step in_buffer t n bytes i step is e
+  repeated_if in_buffer t n bytes i None is e = repeated_ends in_buffer t n bytes i is e
 
-  pub unbounded_steps : {E : Type 0} (in_buffer : Bool) (t i : ℕ) (r : Result (Option Step) E) → in_buffer ≡ true → IsUnbounded code t
-      → IfOk r (IsElementStepIf code L in_buffer (operand code t 1) Whole (stride_of code t) i) → IfOk r (IsStepIf code L in_buffer t i)
-  unbounded_steps true t i (Ok (Some step)) b is e = unbounded_step t i step is e
-  unbounded_steps true t i (Ok None) b is e = unbounded_ends t i is e.broken
-  unbounded_steps false t i (Ok o) b is e = absurd (not_false b)
-  unbounded_steps in_buffer t i (Err e) b is h = tt
+  pub unbounded_if : (in_buffer : Bool) (t i : ℕ) (o : Option Step) → in_buffer ≡ true → IsUnbounded code t
+      → IsElementStepIf code L in_buffer (operand code t 1) Whole (stride_of code t) i o → IsStepIf code L in_buffer t i o
+  unbounded_if true t i (Some step) b is e = unbounded_step t i step is e
+  unbounded_if true t i None b is e = unbounded_ends t i is e.broken
+  unbounded_if false t i o b is e = absurd (not_false b)

@@ -30,7 +30,7 @@ use Rattle.run_rooms.specs.Rooms.{Rooms, AreRooms, AreApart, Cell, Slot, slot_si
 use Rattle.run_plans.specs.declared.base.Bound.{Bound}
 use Rattle.run_plans.specs.Plans.{words_of, number_in, set_of, binding_of, IsSteady}
 use Rattle.run_plans.specs.Ground.{pair_of}
-use Rattle.run_plans.specs.Walks.{IsOfValid}
+use Rattle.run_rooms.specs.Valid.{IsOfValid}
 use Rattle.run_plans.specs.Values.{number_of, value_words, IsWritten, IsWrittenIf}
 use Rattle.run_plans.proofs.Placed.{some_same}
 use Rattle.run_plans.proofs.Acting.{below_or_last}

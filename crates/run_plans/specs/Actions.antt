@@ -1,5 +1,5 @@
 -- The action of each instruction.
-use Rattle.std.specs.Prelude.{ℕ, suc, ◌+◌, Bool, false, cond, nat_eq, List, [], ◌∷◌, length, Option, slice_get}
+use Rattle.std.specs.Prelude.{ℕ, suc, ◌+◌, ◌-◌, ◌^◌, min, Bool, false, cond, nat_eq, List, [], ◌∷◌, length, Option, slice_get}
 use Rattle.spirv_words.specs.declared.images.Instruction.{Instruction}
 use Rattle.spirv_words.specs.Machine.{Shape, Repeated, Unbounded, Fields, place_of, second_of, if_some, or_zero}
 use Rattle.spirv_words.specs.Step.{field_at}
@@ -44,12 +44,13 @@ module _ (code : List Instruction) (L : Rooms) where
   items (Unbounded stride of) (i ∷ is) = slot_item i ∷ items of is
   items s (i ∷ is) = slot_item i ∷ []
 
+  -- no word is behind the place 2^32 - 1, so that an offset is told as far as that
   abbrev pub chain_by : Planned → ℕ → ℕ → Action
-  chain_by (Plan offset steps of) pointer to = Chain (L.slot pointer) (L.slot to) offset steps
+  chain_by (Plan offset steps of) pointer to = Chain (L.slot pointer) (L.slot to) (min offset (2 ^ 32 - 1)) steps
   chain_by NoPlan pointer to = Never
 
   abbrev pub buffer_chain_by : Planned → ℕ → ℕ → Action
-  buffer_chain_by (Plan offset steps of) pointer to = BufferChain (L.slot pointer) (L.slot to) offset steps
+  buffer_chain_by (Plan offset steps of) pointer to = BufferChain (L.slot pointer) (L.slot to) (min offset (2 ^ 32 - 1)) steps
   buffer_chain_by NoPlan pointer to = Never
 
   abbrev pub chain_of : ℕ → ℕ → List ℕ → Action

@@ -1,15 +1,16 @@
 -- What is known of the ground on which a plan is made: the image is valid, and its numbers fit 32 bits.
-use Rattle.std.specs.Prelude.{◌≡◌, ℕ, ◌^◌, ◌<◌, ◌≤◌, Bool, true, ◌||◌, not, nat_lt, List, [], ◌∷◌, Some, length}
+use Rattle.std.specs.Prelude.{◌≡◌, ◌⊎◌, ℕ, ◌^◌, ◌<◌, ◌≤◌, Bool, true, ◌||◌, not, nat_lt, List, [], ◌∷◌, Some, length}
 use Rattle.spirv_words.specs.declared.images.Instruction.{Instruction}
 use Rattle.spirv_words.specs.Machine.{Shape}
 use Rattle.flat_values.specs.Flat.{width}
 use Rattle.image_declarations.specs.Holdings.{extent, is_reached}
 use Rattle.image_facts.specs.Operands.{shape}
 use Rattle.run_rooms.specs.Rooms.{AreRooms}
+use Rattle.run_rooms.specs.Needs.{NeedsTooMuch}
 use Rattle.run_plans.specs.declared.base.Ground.{Ground}
 use Rattle.run_plans.specs.Ground.{rooms_of}
 use Rattle.run_plans.specs.Members.{HasRows}
-use Rattle.run_plans.specs.Walks.{IsOfValid}
+use Rattle.run_rooms.specs.Valid.{IsOfValid}
 
 -- 32 bits tell the number of each instruction
 abbrev pub AreFew : List Instruction → Type 0
@@ -33,6 +34,11 @@ pub record IsFar (code : List Instruction) : Type 0 where
   pub type_id : ℕ
   pub reached : is_reached code type_id ≡ true
   pub far : 2 ^ 32 ≤ extent code type_id
+
+-- a run needs numbers that 32 bits do not tell: those of instructions, the words of a type or of a chain of calls, or the bytes
+-- of a type in a buffer
+abbrev pub IsTooLarge : List Instruction → Type 0
+IsTooLarge code = NeedsTooMuch code ⊎ IsFar code
 
 pub record IsGround (g : Ground) : Type 0 where
   pub valid : IsOfValid g.places.code

@@ -10,5 +10,4 @@ pub mod Values
 pub mod Buffers
 pub mod Whole
 pub mod Grounds
-pub mod Far
 pub mod Acted

@@ -1,5 +1,5 @@
 -- The steps of access chains, taken by types.
-use Rattle.std.specs.Prelude.{◌≡◌, ◌≢◌, ℕ, ◌+◌, ◌/◌, ◌%◌, ◌^◌, min, Bool, true, false, List, [], ◌∷◌, ◌++◌, Option, Some, None}
+use Rattle.std.specs.Prelude.{◌≡◌, ◌≢◌, ℕ, ◌+◌, ◌-◌, ◌/◌, ◌%◌, ◌^◌, min, Bool, true, false, List, [], ◌∷◌, ◌++◌, Option, Some, None}
 use Rattle.spirv_words.specs.declared.images.Instruction.{Instruction}
 use Rattle.spirv_words.specs.Machine.{Shape, if_some}
 use Rattle.spirv_words.specs.Runs.{signed}
@@ -57,9 +57,9 @@ pub record IsElementStep (code : List Instruction) (L : Rooms) (in_buffer : Bool
   pub far : IsStrideOf code in_buffer of bytes stride
   pub is : step ≡ Element (record { slot = L.slot id; extent = extent; stride = stride; signed = signed code (globals_of code) id }) of
 
--- how far something leads, of which 2^32 stands for all that is more
+-- how far something leads, of which 2^32 - 1 stands for all that is more
 abbrev pub IsCut : ℕ → ℕ → Type 0
-IsCut far cut = cut ≡ min far (2 ^ 32)
+IsCut far cut = cut ≡ min far (2 ^ 32 - 1)
 
 -- behind an offset and steps
 abbrev pub behind : ℕ → List Index → Planned → Planned
@@ -76,6 +76,12 @@ pub record IsWalked (code : List Instruction) (L : Rooms) (in_buffer : Bool) (s 
   pub form : Shape
   pub is_form : shape code t ≡ Some form
   pub goes : planned in_buffer s (items code L s is) ≡ behind offset steps (planned in_buffer form (items code L form rest))
+
+-- the same by an offset that is told as far as 2^32 - 1, whatever the type's shape
+pub record HasWalked (code : List Instruction) (L : Rooms) (in_buffer : Bool) (t : ℕ) (is : List ℕ) (offset : ℕ) (steps : List Index) (at : ℕ) (rest : List ℕ) : Type 0 where
+  pub far : ℕ
+  pub cut : IsCut far offset
+  pub walked : (s : Shape) → shape code t ≡ Some s → IsWalked code L in_buffer s is far steps at rest
 
 -- ---- where no run goes
 
@@ -109,7 +115,7 @@ IsStepIf code L in_buffer t index None = IsNoStep code L in_buffer t index
 pub record IsNoWalk (code : List Instruction) (L : Rooms) (in_buffer : Bool) (t : ℕ) (is : List ℕ) : Type 0 where
   pub ends : (s : Shape) → shape code t ≡ Some s → planned in_buffer s (items code L s is) ≡ NoPlan
 
--- indices lead by these steps, and by an offset that is told as far as 2^32
+-- indices lead by these steps, and by an offset that is told as far as 2^32 - 1
 pub record IsWalkFar (code : List Instruction) (L : Rooms) (in_buffer : Bool) (t : ℕ) (is : List ℕ) (walk : Walk) : Type 0 where
   pub far : ℕ
   pub cut : IsCut far walk.offset

@@ -1,19 +1,11 @@
 -- How types are walked along with their shapes.
 use Rattle.std.specs.Prelude.{◌≡◌, ℕ, ◌+◌, List, [], ◌∷◌, Option, Some, drop, slice_get, take}
 use Rattle.spirv_words.specs.declared.images.Instruction.{Instruction}
-use Rattle.spirv_words.specs.declared.images.Image.{Image}
 use Rattle.spirv_words.specs.Machine.{Shape, if_some}
 use Rattle.flat_values.specs.Flat.{width}
 use Rattle.flat_values.specs.Pieces.{At, piece_of, piece}
 use Rattle.image_lookup.specs.Lookups.{operands}
 use Rattle.image_facts.specs.Operands.{shape}
-use Rattle.spirv_check.specs.Valid.{Valid}
-
--- instructions of a valid image
-pub record IsOfValid (code : List Instruction) : Type 0 where
-  pub image : Image
-  pub valid : Valid image
-  pub same : image.instructions ≡ code
 
 -- there is one
 pub record IsThere (o : Option ℕ) : Type 0 where

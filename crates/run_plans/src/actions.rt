@@ -1,6 +1,6 @@
 // The action of each instruction.
 
-ghost use Rattle.std.specs.Prelude.{◌≡◌, ℕ, ◌<◌, List, [], IfOk, IfErr, Some, length};
+ghost use Rattle.std.specs.Prelude.{◌≡◌, ℕ, ◌<◌, List, [], IfOk, Some, length};
 ghost use Rattle.spirv_words.specs.declared.images.Instruction.{Instruction};
 ghost use Rattle.image_places.specs.Places.{function_of, under_function};
 ghost use Rattle.run_rooms.specs.Rooms.{Rooms};
@@ -9,9 +9,7 @@ ghost use Rattle.run_plans.specs.Ground.{rooms_of};
 ghost use Rattle.run_plans.specs.Grounds.{IsGround};
 ghost use Rattle.run_plans.specs.Acted.{IsActed};
 ghost use Rattle.run_plans.specs.Actions.{is_in_buffer, load_of, store_of, same_of, one_of, two_of, jump_of, choice_of, act_by, action_of};
-ghost use Rattle.run_plans.specs.Far.{LeadsFar, HasFarChain};
 ghost use Rattle.run_plans.specs.Plans.{AreActions};
-ghost use Rattle.call_layout.specs.declared.faults.Fault.TheVariants.{TooLarge};
 
 use crate::base::Ground;
 use crate::calls::{call_of, give_back_of, place_of, return_of};
@@ -19,7 +17,6 @@ use crate::chains::chain_of;
 use crate::composites::{extract_of, gathered};
 use crate::kinds::{Kind, kind_of};
 use crate::parts::{size_of, slot_size};
-use call_layout::Fault;
 use flat_values::{Binary, Unary};
 use image_declarations::is_buffer_class;
 use run_actions::{Action, Move};
@@ -35,7 +32,6 @@ fn is_in_buffer(places: &Ground, pointer: u32) -> bool
 }
 
 fn load_of(places: &Ground, type_id: u32, to: u32, pointer: u32) -> Action
-    requires ground { IsGround places.now }
     ensures { result ≡ load_of places.now.places.code (rooms_of places.now) type_id to pointer }
 {
     let count = size_of(places, type_id);
@@ -53,7 +49,6 @@ fn load_of(places: &Ground, type_id: u32, to: u32, pointer: u32) -> Action
 }
 
 fn store_of(places: &Ground, pointer: u32, value: u32) -> Action
-    requires ground { IsGround places.now }
     ensures { result ≡ store_of places.now.places.code (rooms_of places.now) pointer value }
 {
     let count = slot_size(places, value);
@@ -71,7 +66,6 @@ fn store_of(places: &Ground, pointer: u32, value: u32) -> Action
 }
 
 fn same_of(places: &Ground, type_id: u32, to: u32, from: u32) -> Action
-    requires ground { IsGround places.now }
     ensures { result ≡ same_of places.now.places.code (rooms_of places.now) type_id to from }
 {
     Action::Copy {
@@ -84,7 +78,6 @@ fn same_of(places: &Ground, type_id: u32, to: u32, from: u32) -> Action
 }
 
 fn one_of(places: &Ground, op: Unary, type_id: u32, to: u32, from: u32) -> Action
-    requires ground { IsGround places.now }
     ensures { result ≡ one_of places.now.places.code (rooms_of places.now) op type_id to from }
 {
     Action::One {
@@ -96,7 +89,6 @@ fn one_of(places: &Ground, op: Unary, type_id: u32, to: u32, from: u32) -> Actio
 }
 
 fn two_of(places: &Ground, op: Binary, type_id: u32, to: u32, left: u32, right: u32) -> Action
-    requires ground { IsGround places.now }
     ensures { result ≡ two_of places.now.places.code (rooms_of places.now) op type_id to left right }
 {
     Action::Two {
@@ -149,7 +141,6 @@ fn put(places: &Ground, operands: &[u32]) -> Action
 
 /// A load.
 fn load(places: &Ground, operands: &[u32]) -> Action
-    requires ground { IsGround places.now }
     ensures { (number : ℕ) → result ≡ act_by places.now.places.code (rooms_of places.now) number DoLoad operands.now }
 {
     match operands {
@@ -160,7 +151,6 @@ fn load(places: &Ground, operands: &[u32]) -> Action
 
 /// A store.
 fn store(places: &Ground, operands: &[u32]) -> Action
-    requires ground { IsGround places.now }
     ensures { (number : ℕ) → result ≡ act_by places.now.places.code (rooms_of places.now) number DoStore operands.now }
 {
     match operands {
@@ -171,7 +161,6 @@ fn store(places: &Ground, operands: &[u32]) -> Action
 
 /// What is given as it is.
 fn same(places: &Ground, operands: &[u32]) -> Action
-    requires ground { IsGround places.now }
     ensures { (number : ℕ) → result ≡ act_by places.now.places.code (rooms_of places.now) number DoSame operands.now }
 {
     match operands {
@@ -182,7 +171,6 @@ fn same(places: &Ground, operands: &[u32]) -> Action
 
 /// An operator of one operand.
 fn one(places: &Ground, op: Unary, operands: &[u32]) -> Action
-    requires ground { IsGround places.now }
     ensures { (number : ℕ) → result ≡ act_by places.now.places.code (rooms_of places.now) number (DoOne op) operands.now }
 {
     match operands {
@@ -193,7 +181,6 @@ fn one(places: &Ground, op: Unary, operands: &[u32]) -> Action
 
 /// An operator of two operands.
 fn two(places: &Ground, op: Binary, operands: &[u32]) -> Action
-    requires ground { IsGround places.now }
     ensures { (number : ℕ) → result ≡ act_by places.now.places.code (rooms_of places.now) number (DoTwo op) operands.now }
 {
     match operands {
@@ -204,7 +191,6 @@ fn two(places: &Ground, op: Binary, operands: &[u32]) -> Action
 
 /// An operator of two operands in the other order.
 fn turned(places: &Ground, op: Binary, operands: &[u32]) -> Action
-    requires ground { IsGround places.now }
     ensures { (number : ℕ) → result ≡ act_by places.now.places.code (rooms_of places.now) number (DoTurned op) operands.now }
 {
     match operands {
@@ -236,12 +222,10 @@ fn condition(places: &Ground, operands: &[u32]) -> Action
 }
 
 /// An access chain.
-fn chain(alloc: Global, places: &Ground, operands: &[u32]) -> Result<Action, Fault>
+fn chain(alloc: Global, places: &Ground, operands: &[u32]) -> Result<Action, AllocError>
     requires ground { IsGround places.now }
     requires acted { IsActed places.now.places.code (rooms_of places.now) DoChain operands.now }
-    ensures acts { (number : ℕ) → IfOk result (λ action. action ≡ act_by places.now.places.code (rooms_of places.now) number DoChain operands.now) }
-    ensures near { IfOk result (λ action. LeadsFar action → ⊥) }
-    ensures too_large { (number : ℕ) → IfErr result (λ fault. fault ≡ TooLarge → LeadsFar (act_by places.now.places.code (rooms_of places.now) number DoChain operands.now)) }
+    ensures { (number : ℕ) → IfOk result (λ action. action ≡ act_by places.now.places.code (rooms_of places.now) number DoChain operands.now) }
 {
     match operands {
         [_, to, pointer, indices @ ..] => chain_of(alloc, places, *to, *pointer, indices),
@@ -305,7 +289,6 @@ fn give_nothing(places: &Ground, function: usize, operands: &[u32]) -> Action
 
 /// A return with a value from a function.
 fn give_back(places: &Ground, function: usize, operands: &[u32]) -> Action
-    requires ground { IsGround places.now }
     ensures { (number : ℕ) → function ≡ function_of places.now.places.code number → result ≡ act_by places.now.places.code (rooms_of places.now) number DoGiveBack operands.now }
 {
     match operands {
@@ -332,20 +315,17 @@ fn act_by(
     function: usize,
     kind: Kind,
     operands: &[u32],
-) -> Result<Action, Fault>
+) -> Result<Action, AllocError>
     requires ground { IsGround places.now }
     requires inside { number < length places.now.places.code }
     requires open { function ≡ function_of places.now.places.code number }
     requires acted { IsActed places.now.places.code (rooms_of places.now) kind operands.now }
-    ensures acts { IfOk result (λ action. action ≡ act_by places.now.places.code (rooms_of places.now) number kind operands.now) }
-    ensures near { kind ≡ DoChain → IfOk result (λ action. LeadsFar action → ⊥) }
-    ensures chain { IfErr result (λ fault. fault ≡ TooLarge → kind ≡ DoChain) }
-    ensures too_large { IfErr result (λ fault. fault ≡ TooLarge → LeadsFar (act_by places.now.places.code (rooms_of places.now) number kind operands.now)) }
+    ensures { IfOk result (λ action. action ≡ act_by places.now.places.code (rooms_of places.now) number kind operands.now) }
 {
     match kind {
         Kind::Chain => chain(alloc, places, operands),
-        Kind::Construct => Ok(construct(alloc, places, operands)?),
-        Kind::Call => Ok(call(alloc, places, number, operands)?),
+        Kind::Construct => construct(alloc, places, operands),
+        Kind::Call => call(alloc, places, number, operands),
         Kind::Pass => Ok(Action::Pass),
         Kind::Never => Ok(Action::Never),
         Kind::Variable => Ok(put(places, operands)),
@@ -376,11 +356,9 @@ pub fn function_behind(op: Op, number: usize, function: usize) -> usize
 }
 
 /// The actions of all instructions.
-pub fn actions_of(alloc: Global, places: &Ground) -> Result<Vec<Action>, Fault>
+pub fn actions_of(alloc: Global, places: &Ground) -> Result<Vec<Action>, AllocError>
     requires ground { IsGround places.now }
-    ensures actions { IfOk result (λ actions. AreActions places.now.places.code (rooms_of places.now) actions.items) }
-    ensures near { IfOk result (λ actions. HasFarChain places.now.places.code → ⊥) }
-    ensures too_large { IfErr result (λ fault. fault ≡ TooLarge → HasFarChain places.now.places.code) }
+    ensures { IfOk result (λ actions. AreActions places.now.places.code (rooms_of places.now) actions.items) }
 {
     let mut actions = Vec::new(alloc);
     let mut function: usize = 0;

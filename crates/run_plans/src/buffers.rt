@@ -5,7 +5,7 @@ ghost use Rattle.spirv_words.specs.Machine.{or_zero, decoration};
 ghost use Rattle.image_declarations.specs.Decorations.{literal_of};
 ghost use Rattle.image_operands.specs.Marks.{is_buffer};
 ghost use Rattle.run_plans.specs.Plans.{needs};
-ghost use Rattle.run_plans.specs.Walks.{IsOfValid};
+ghost use Rattle.run_rooms.specs.Valid.{IsOfValid};
 ghost use Rattle.run_plans.specs.Buffers.{bound_of, bound_if, bounds_at, bounds_in, AreBounds};
 ghost use Rattle.run_plans.specs.Grounds.{AreNear};
 

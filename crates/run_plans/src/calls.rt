@@ -140,7 +140,6 @@ pub fn return_of(places: &Ground, function: usize) -> Action
 
 /// The action of a return with a value from a function.
 pub fn give_back_of(places: &Ground, function: usize, value: u32) -> Action
-    requires ground { IsGround places.now }
     ensures { result ≡ give_back_of places.now.places.code (rooms_of places.now) function value }
 {
     Action::GiveBack {

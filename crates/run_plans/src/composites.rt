@@ -19,7 +19,6 @@ use std::alloc::{AllocError, Global};
 
 /// The words of an id, copied to a place.
 pub fn move_of(places: &Ground, id: u32, to: u32) -> Move
-    requires ground { IsGround places.now }
     ensures { result ≡ record { from = (rooms_of places.now).slot id; to = to; count = slot_size places.now.places.code id } }
 {
     Move {
@@ -36,7 +35,6 @@ pub fn gathered(
     values: &[u32],
     to: u32,
 ) -> Result<Items<Move>, AllocError>
-    requires ground { IsGround places.now }
     requires inside { to + sizes places.now.places.code values.now < 2 ^ 32 }
     ensures { IfOk result (λ parts. parts ≡ gathered places.now.places.code (rooms_of places.now) values.now to) }
 {

@@ -2,7 +2,7 @@
 
 ghost use Rattle.std.specs.Prelude.{◌≡◌, true, false};
 ghost use Rattle.run_plans.specs.Grounds.{is_near, AreNear, IsFar};
-ghost use Rattle.run_plans.specs.Walks.{IsOfValid};
+ghost use Rattle.run_rooms.specs.Valid.{IsOfValid};
 
 use image_declarations::Declarations;
 

@@ -6,8 +6,7 @@ ghost use Rattle.spirv_words.specs.Runs.{start_place};
 ghost use Rattle.run_rooms.specs.Rooms.{Rooms};
 ghost use Rattle.run_plans.specs.Buffers.{AreBounds};
 ghost use Rattle.run_plans.specs.Ground.{rooms_of};
-ghost use Rattle.run_plans.specs.Grounds.{AreFew, IsGround};
-ghost use Rattle.run_plans.specs.Far.{HasFarChain, IsTooLarge};
+ghost use Rattle.run_plans.specs.Grounds.{AreFew, IsGround, IsTooLarge};
 ghost use Rattle.run_plans.specs.Whole.{IsPlan};
 
 use crate::actions::actions_of;
@@ -23,7 +22,7 @@ use run_actions::Action;
 use run_rooms::Places;
 use spirv_check::ValidImage;
 use sqlite_items::Items;
-use std::alloc::Global;
+use std::alloc::{AllocError, Global};
 
 /// What an image is run by.
 #[derive(Drop)]
@@ -61,12 +60,10 @@ fn start_place(declarations: &Declarations) -> usize
 }
 
 /// The plan, where the places of values and the buffers are known.
-fn plan_on(alloc: Global, base: Ground) -> Result<Plan, Fault>
+fn plan_on(alloc: Global, base: Ground) -> Result<Plan, AllocError>
     requires ground { IsGround base }
     requires bounds { AreBounds base.places.code base.buffers }
-    ensures plan { IfOk result (IsPlan base.entry.places.code (rooms_of base.entry)) }
-    ensures near { IfOk result (λ plan. HasFarChain base.entry.places.code → ⊥) }
-    ensures too_large { IfErr result (λ fault. fault ≡ TooLarge → HasFarChain base.entry.places.code) }
+    ensures { IfOk result (IsPlan base.entry.places.code (rooms_of base.entry)) }
 {
     let actions = actions_of(alloc, &base)?;
     let words = first_words(alloc, &base)?;
@@ -103,12 +100,10 @@ pub fn plan_of(alloc: Global, image: &ValidImage) -> Result<Plan, Fault>
     }
     let buffers = buffers_of(alloc, places.declarations())?;
     let members = rows_of(alloc, &places)?;
-    plan_on(
-        alloc,
-        Ground {
-            places,
-            buffers,
-            members,
-        },
-    )
+    let base = Ground {
+        places,
+        buffers,
+        members,
+    };
+    Ok(plan_on(alloc, base)?)
 }
