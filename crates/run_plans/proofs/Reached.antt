@@ -97,3 +97,7 @@ all_near code v h =
 pub one_far : (code : List Instruction) (os : List ℕ) → is_near code os ≡ false → IsFar code
 one_far code [] h = cc
 one_far code (t ∷ os) h = let f = far_cases (is_reached code t) (extent code t) h in record { type_id = t; reached = f.0; far = f.1 }
+
+-- never both
+pub near_or_far : (code : List Instruction) → AreNear code → IsFar code → ⊥
+near_or_far code near far = let l = near.each far.type_id far.reached in let m = far.far in omega arith

@@ -140,12 +140,11 @@ struct_stands code t h =
     let p = place-of code t x z.defines in
     let o = op-struct x.op z.of_sort in
     let begins = first_by x.operands t (ap (λ (q : Op). result_of q x.operands) (sym o) ∙ p.result) in
-    record {
-      number = p.place;
-      rest = begins.0;
-      stands = p.stands ∙ ap (λ (q : Op). Some (record { op = q; operands = x.operands })) o
-          ∙ ap (λ (os : List ℕ). Some (record { op = TypeStruct; operands = os })) begins.1;
-    }
+    record { number = p.place; rest = begins.0; stands = p.stands ∙ formed x t begins.0 o begins.1 }
+  where
+    formed : (x : Instruction) (t : ℕ) (rest : List ℕ) → x.op ≡ TypeStruct → x.operands ≡ t ∷ rest → Some x ≡ Some (record { op = TypeStruct; operands = t ∷ rest })
+    formed x t rest o e =
+        ap (λ (q : Op). Some (record { op = q; operands = x.operands })) o ∙ ap (λ (os : List ℕ). Some (record { op = TypeStruct; operands = os })) e
 
 module _ {S : Type 0} (code : List Instruction) where
   pub all_rows : (n : ℕ) (known : HashMap ℕ (Vec ℕ) S) → AreRowsTo code n known → length code ≤ n → AreRows code known

@@ -52,11 +52,10 @@ fn start_place(declarations: &Declarations) -> usize
         Some(entry) => entry,
         None => 0,
     };
-    let place = match declarations.definitions().place(entry) {
-        Some(place) => place,
-        None => 0,
-    };
-    place + 1
+    match declarations.definitions().place(entry) {
+        Some(place) => place + 1,
+        None => 1,
+    }
 }
 
 /// The plan, where the places of values and the buffers are known.

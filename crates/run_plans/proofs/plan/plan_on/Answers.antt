@@ -19,9 +19,9 @@ returns c =
     let g = c.args.base in
     let code = g.places.code in
     let L = rooms_of g in
-    let place : c.in_ok-place.place ≡ start_place code = c.in_ok-place.ensures ∙ ap start_place c.declarations.ensures in
+    let place : c.start_place-place.result ≡ start_place code = c.start_place-place.ensures ∙ ap start_place c.declarations.ensures in
     record {
-      rooms = c.requires.rooms;
+      rooms = c.requires.ground.rooms;
       actions = c.in_ok-actions.ensures;
       words = c.in_ok-words.ensures;
       buffers = subst (AreBuffers code) (sym (buffers_same g)) (buffers_are code g.buffers c.requires.bounds);
