@@ -1,8 +1,7 @@
 // Where the words of functions begin.
 
-ghost use Rattle.std.specs.Prelude.{◌≡◌, ◌+◌, ◌^◌, ◌<◌, ℕ, List, [], ◌∷◌, ◌++◌, true, false, nat_eq, length, slice_index, IfOk, OnOk, IfErr};
+ghost use Rattle.std.specs.Prelude.{◌≡◌, ◌+◌, ◌^◌, ◌<◌, ℕ, List, [], ◌∷◌, ◌++◌, true, nat_eq, length, slice_index, IfOk, OnOk, IfErr};
 ghost use Rattle.std.specs.List.{list_any};
-ghost use Rattle.call_graph.specs.Edges.{calls_it};
 ghost use Rattle.call_graph.specs.Order.{IsOrder};
 ghost use Rattle.call_layout.specs.declared.faults.Fault.TheVariants.{TooLarge};
 ghost use Rattle.call_layout.specs.Chains.{AreNumbered, AreBegins, TooLong};

@@ -1,8 +1,7 @@
 -- Chains of calls, by the tables and by the image.
-use Rattle.std.proofs.Common.{◌≡◌, ◌≢◌, ◌⊎◌, ℕ, zero, suc, ◌+◌, ◌^◌, ◌<◌, ◌≤◌, true, false, cond, nat_eq, List, [], ◌∷◌, length, Option, Some, None, slice_get, slice_index, refl, sym, ap, ◌∙◌, arith, inl, inr, subst}
+use Rattle.std.proofs.Common.{◌≡◌, ℕ, zero, suc, ◌+◌, ◌^◌, ◌<◌, ◌≤◌, true, nat_eq, List, [], ◌∷◌, length, Option, Some, None, slice_index, refl, sym, ap, ◌∙◌, arith, subst}
 use Rattle.std.proofs.Math.Logic.{⊎_elim}
-use Rattle.std.proofs.lemmas.Bool.{eqb-true, cases_lt, cases_eq, cond-false, ne_eqb}
-use Rattle.std.proofs.lemmas.Option.{slice_get_within}
+use Rattle.std.proofs.lemmas.Bool.{cases_lt, cases_eq, cond-false, ne_eqb}
 use Rattle.spirv_words.specs.declared.opcodes.Op.{Op}
 use Rattle.spirv_words.specs.declared.opcodes.Op.TheVariants.{Function, FunctionEnd}
 use Rattle.spirv_words.specs.declared.images.Instruction.{Instruction}
@@ -15,10 +14,9 @@ use Rattle.run_rooms.specs.Rooms.{IsFunction}
 use Rattle.run_rooms.specs.Sums.{before}
 use Rattle.run_rooms.specs.Layout.{IsLayout, IsPart, IsTable, Layout, lead, part_in, room_words_at, slot_words_at}
 use Rattle.run_rooms.specs.Needs.{HasCall, HasLongChain, IsCallChain, words_of}
-use Rattle.run_rooms.specs.Calls.{AreCalls, KeepsCalls}
+use Rattle.run_rooms.specs.Calls.{KeepsCalls}
 use Rattle.run_rooms.specs.Tables.{AreStarts}
 use Rattle.run_rooms.proofs.Apart.{op-within}
-use Rattle.run_rooms.proofs.Defined.{function_of-within}
 
 -- ---- functions with words
 

@@ -1,30 +1,28 @@
 -- The calls of a valid image are of functions, and lead nowhere back.
-use Rattle.std.proofs.Common.{◌≡◌, ◌≢◌, ℕ, zero, suc, ◌+◌, ◌<◌, ◌≤◌, ◌||◌, ◌&&◌, Bool, true, false, not, cond, nat_eq, List, [], ◌∷◌, ◌++◌, length, take, fold, Option, Some, None, option_to_list, slice_get, refl, sym, ap, ◌∙◌, arith, subst}
+use Rattle.std.proofs.Common.{◌≡◌, ◌≢◌, ℕ, zero, suc, ◌+◌, ◌||◌, ◌&&◌, Bool, true, false, not, cond, nat_eq, List, [], ◌∷◌, ◌++◌, take, fold, Option, Some, None, option_to_list, slice_get, refl, sym, ap, ◌∙◌, arith, subst}
 use Rattle.std.proofs.lemmas.Bool.{eqb-true, eq-eqb, ne_eqb, and_parts}
 use Rattle.std.proofs.lemmas.Option.{slice_get_within}
 use Rattle.std.specs.List.{list_any}
 use Rattle.std.specs.Option.{option_map}
 use Rattle.spirv_words.specs.declared.opcodes.Op.{Op}
-use Rattle.spirv_words.specs.declared.opcodes.Op.TheVariants.{Function, FunctionEnd, FunctionCall}
+use Rattle.spirv_words.specs.declared.opcodes.Op.TheVariants.{Function, FunctionCall}
 use Rattle.spirv_words.specs.declared.images.Instruction.{Instruction}
 use Rattle.spirv_words.specs.declared.images.Image.{Image}
-use Rattle.spirv_words.specs.declared.faults.ImageCode.TheVariants as codes
 use Rattle.spirv_words.specs.Machine.{place_of}
 use Rattle.image_places.specs.Places.{op_at, function_of, block_of, under_function, under_label}
-use Rattle.image_rules.specs.Order.{is_misplaced, may_follow, out_of_order, reached}
+use Rattle.image_rules.specs.Order.{is_misplaced, reached}
 use Rattle.image_types.specs.Functions.{is_function}
 use Rattle.call_graph.specs.Edges.{callees, calls_it, is_walk, Leads}
 use Rattle.call_graph.specs.Order.{HasCycle}
 use Rattle.call_graph.proofs.Visits.{or-right}
 use Rattle.image_calls.specs.Edges.{open_after, edge_of, calls}
-use Rattle.image_calls.specs.Calls.{BadCall, inside_at}
+use Rattle.image_calls.specs.Calls.{inside_at}
 use Rattle.image_scopes.specs.Scopes.{IsRun}
 use Rattle.image_scopes.specs.Facts.{Begun, Begins, Calls, Within}
 use Rattle.image_scopes.proofs.Kept.{in_order}
 use Rattle.spirv_check.specs.Valid.{Valid}
-use Rattle.run_rooms.specs.Valid.{IsOfValid}
-use Rattle.run_rooms.specs.Rooms.{IsFunction, IsCall}
-use Rattle.run_rooms.specs.Layout.{called, called_by}
+use Rattle.run_rooms.specs.Rooms.{IsFunction}
+use Rattle.run_rooms.specs.Layout.{called_by}
 use Rattle.run_rooms.specs.Needs.{HasCall}
 use Rattle.run_rooms.specs.Calls.{KeepsCalls}
 use Rattle.run_rooms.proofs.Defined.{one-placed}

@@ -1,15 +1,13 @@
 -- Types whose words 32 bits tell.
-use Rattle.std.proofs.Common.{◌≡◌, ◌⊎◌, ℕ, zero, suc, ◌+◌, ◌^◌, ◌<◌, ◌≤◌, min, Bool, true, false, cond, nat_eq, List, [], ◌∷◌, length, get_or, Option, Some, None, slice_get, refl, sym, ap, ◌∙◌, arith, inl, inr, subst}
+use Rattle.std.proofs.Common.{◌≡◌, ◌⊎◌, ℕ, suc, ◌+◌, ◌^◌, ◌<◌, ◌≤◌, true, false, cond, nat_eq, List, [], ◌∷◌, length, get_or, Option, Some, None, slice_get, refl, sym, ap, ◌∙◌, arith, inl, inr, subst}
 use Rattle.std.proofs.Math.Logic.{⊎_elim}
 use Rattle.std.proofs.lemmas.Bool.{eqb-true, cases_lt}
 use Rattle.std.proofs.lemmas.Option.{slice_get_within, slice_get_read}
-use Rattle.std.specs.Option.{option_map}
-use Rattle.std.specs.HashMap.{get}
 use Rattle.spirv_words.specs.declared.images.Instruction.{Instruction}
-use Rattle.spirv_words.specs.Machine.{Shape, Globals, Meaning, IsType, IsValue, Unknown, add, meaning_of, result_of, if_some, is_function, declared}
+use Rattle.spirv_words.specs.Machine.{Shape, Globals, Meaning, IsType, IsValue, Unknown, add, meaning_of, result_of, is_function, declared}
 use Rattle.spirv_words.specs.Runs.{undeclared}
 use Rattle.flat_values.specs.Flat.{width}
-use Rattle.image_facts.specs.Operands.{globals_of, shape}
+use Rattle.image_facts.specs.Operands.{shape}
 use Rattle.run_rooms.specs.Needs.{IsNarrow}
 
 -- ---- types are declared

@@ -1,5 +1,5 @@
 -- Single tables make a layout.
-use Rattle.std.proofs.Common.{◌≡◌, ℕ, suc, ◌+◌, ◌^◌, ◌<◌, ◌≤◌, List, length, Some, slice_index, refl, sym, ap, ◌∙◌, arith, subst}
+use Rattle.std.proofs.Common.{◌≡◌, ℕ, suc, ◌+◌, ◌^◌, ◌<◌, ◌≤◌, List, length, slice_index, refl, sym, ap, ◌∙◌, arith, subst}
 use Rattle.spirv_words.specs.declared.opcodes.Op.TheVariants.{Function}
 use Rattle.spirv_words.specs.declared.images.Instruction.{Instruction}
 use Rattle.image_places.specs.Places.{function_of}
@@ -7,8 +7,8 @@ use Rattle.run_rooms.specs.declared.parts.Part.{Part}
 use Rattle.run_rooms.specs.declared.tables.Tables.{Tables}
 use Rattle.run_rooms.specs.Rooms.{IsFunction}
 use Rattle.run_rooms.specs.Sums.{before}
-use Rattle.run_rooms.specs.Layout.{IsLayout, IsPart, IsFilled, IsTable, AreOffsets, AreParts, HasFarSum, part_in, lead, summed, slot_words_at, room_words_at, called}
-use Rattle.run_rooms.specs.Needs.{HasCall, HasLongChain, words_of}
+use Rattle.run_rooms.specs.Layout.{IsLayout, IsPart, IsFilled, IsTable, AreOffsets, AreParts, HasFarSum, part_in, lead, summed, slot_words_at, room_words_at}
+use Rattle.run_rooms.specs.Needs.{HasLongChain, words_of}
 use Rattle.run_rooms.specs.Calls.{KeepsCalls}
 use Rattle.run_rooms.specs.Tables.{layout_of, ArePlaced, AreLaid, AreStarts}
 use Rattle.run_rooms.proofs.Sums.{before-grows, before-same}

@@ -3,7 +3,7 @@ use Rattle.std.specs.Prelude.{◌≡◌, ℕ, ◌+◌, suc, ◌^◌, ◌≤◌, 
 use Rattle.spirv_words.specs.declared.images.Instruction.{Instruction}
 use Rattle.run_rooms.specs.declared.tables.Tables.{Tables}
 use Rattle.run_rooms.specs.declared.parts.Part.{Part}
-use Rattle.run_rooms.specs.Layout.{Layout, IsPart, IsTable, called, part_in}
+use Rattle.run_rooms.specs.Layout.{Layout, IsPart, IsTable, part_in}
 use Rattle.run_rooms.specs.Needs.{HasCall, words_of}
 
 abbrev pub layout_of : List Instruction → Tables → Layout

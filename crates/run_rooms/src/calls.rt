@@ -1,6 +1,6 @@
 // Which functions are called, by their numbers.
 
-ghost use Rattle.std.specs.Prelude.{◌≡◌, ◌^◌, ◌<◌, ◌≤◌, ℕ, suc, length, IfOk, IfSome};
+ghost use Rattle.std.specs.Prelude.{◌≡◌, ◌^◌, ◌<◌, ◌≤◌, suc, length, IfOk, IfSome};
 ghost use Rattle.std.specs.Option.{option_map};
 ghost use Rattle.spirv_words.specs.declared.opcodes.Op.TheVariants.{FunctionCall};
 ghost use Rattle.spirv_words.specs.Machine.{place_of};

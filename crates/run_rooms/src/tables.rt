@@ -6,7 +6,7 @@ ghost use Rattle.image_facts.specs.Operands.{globals_of};
 ghost use Rattle.image_places.specs.Places.{function_of};
 ghost use Rattle.run_rooms.specs.Widths.{Tells};
 ghost use Rattle.run_rooms.specs.Sums.{before};
-ghost use Rattle.run_rooms.specs.Layout.{IsTable, IsLayout, AreParts, part_in, room_words_at, slot_words_at};
+ghost use Rattle.run_rooms.specs.Layout.{IsTable, IsLayout, part_in, room_words_at, slot_words_at};
 ghost use Rattle.run_rooms.specs.Needs.{words_of, HasLongChain};
 ghost use Rattle.run_rooms.specs.Calls.{KeepsCalls};
 ghost use Rattle.run_rooms.specs.Tables.{layout_of, ArePlaced, AreLaid, AreStarts};

@@ -1,9 +1,6 @@
-use Rattle.std.proofs.Common.{◌≡◌, ◌<◌, ◌+◌, ℕ, List, Some, None, length, get_or, slice_get, slice_index, refl, sym, ap, ◌∙◌, arith, subst}
+use Rattle.std.proofs.Common.{◌≡◌, ◌<◌, ℕ, List, Some, length, get_or, slice_get, slice_index, refl, sym, ap, ◌∙◌, arith}
 use Rattle.std.proofs.lemmas.Option.{slice_get_read}
 use Rattle.spirv_words.specs.declared.images.Instruction.{Instruction}
-use Rattle.image_places.specs.Places.{function_of}
-use Rattle.run_rooms.specs.Layout.{called}
-use Rattle.run_rooms.specs.Calls.{AreCalls}
 use Rattle.run_rooms.proofs.Defined.{function_of-within}
 use Rattle.run_rooms.proofs.Listed.{calls-same, calls-more}
 use Rattle.run_rooms.proofs.calls.edges.Goals.{in-Some+in_ok-push-in-Some, in-None}

@@ -1,5 +1,4 @@
-use Rattle.std.proofs.Common.{List, subst}
-use Rattle.spirv_words.specs.declared.images.Instruction.{Instruction}
+use Rattle.std.proofs.Common.{subst}
 use Rattle.spirv_words.specs.declared.faults.ImageCode.TheVariants as codes
 use Rattle.run_rooms.specs.Calls.{KeepsCalls}
 use Rattle.run_rooms.proofs.Cycles.{keeps}

@@ -1,7 +1,6 @@
-use Rattle.std.proofs.Common.{◌≡◌, ℕ, List, Vec, length, subst, sym}
+use Rattle.std.proofs.Common.{◌≡◌, ℕ, List, length, subst, sym}
 use Rattle.std.proofs.lemmas.Result.{IfErr-weaker, IfOk-weaker}
 use Rattle.spirv_words.specs.declared.images.Instruction.{Instruction}
-use Rattle.call_layout.specs.declared.faults.Fault.{Fault}
 use Rattle.call_layout.specs.declared.faults.Fault.TheVariants.{TooLarge}
 use Rattle.call_layout.specs.Chains.{AreBegins, TooLong}
 use Rattle.run_rooms.specs.Calls.{AreCalls}

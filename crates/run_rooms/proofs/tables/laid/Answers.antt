@@ -1,7 +1,7 @@
 use Rattle.std.proofs.Common.{ℕ, List, length, suc, subst, sym}
 use Rattle.std.proofs.lemmas.Result.{err_from_is_err_and}
 use Rattle.spirv_words.specs.declared.images.Instruction.{Instruction}
-use Rattle.run_rooms.specs.Layout.{AreParts, IsTable}
+use Rattle.run_rooms.specs.Layout.{IsTable}
 use Rattle.run_rooms.specs.Needs.{words_of}
 use Rattle.run_rooms.specs.Tables.{AreStarts}
 use Rattle.run_rooms.proofs.Whole.{words-table, far-words, starts-fit, laid}
