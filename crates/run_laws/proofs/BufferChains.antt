@@ -32,7 +32,7 @@ use Rattle.run_laws.proofs.Counting.{words_count}
 use Rattle.run_laws.proofs.Writing.{Setup}
 use Rattle.run_laws.proofs.Acting.{Ready, IsResult, result_inside, result_together}
 use Rattle.run_laws.proofs.Operands.{follows_flat}
-use Rattle.run_laws.proofs.Indices.{IsIndex, AreIndices, some_below, indices_are, indices_there, Walk, walks, path_is, negative_is, items_there}
+use Rattle.run_laws.proofs.Indices.{as_far, IsIndex, AreIndices, some_below, indices_are, indices_there, Walk, walks, path_is, negative_is, items_there}
 use Rattle.run_laws.proofs.Planning.{IsResolved, buffer_planned}
 use Rattle.run_laws.proofs.Spacing.{leads_inside}
 
@@ -59,7 +59,7 @@ module _ (code : List Instruction) (L : Rooms) (ids : Ids) (lengths : ℕ → �
   -- the action of a chain that is planned
   acts_in_buffer : (r p next : ℕ) (is : List ℕ) (form : Shape) (ws : List ℕ) (q : IsResolved (buffer_plan form (items code L form is)))
       → target_shape code p ≡ Some form → is_in_buffer code p ≡ true
-      → act_on (chain_of code L r p is) next counts ws ≡ act_on (BufferChain (L.slot p) (L.slot r) q.offset q.steps) next counts ws
+      → act_on (chain_of code L r p is) next counts ws ≡ act_on (BufferChain (L.slot p) (L.slot r) (min q.offset (2 ^ 32 - 1)) q.steps) next counts ws
   acts_in_buffer r p next is form ws q e b =
       ap (λ o. act_on (if_some o Never (λ s.
       cond (is_in_buffer code p) (buffer_chain_by code L (buffer_plan s (items code L s is)) p r) (chain_by code L (plan s (items code L s is)) p r))) next counts ws) e
@@ -136,10 +136,10 @@ module _ (code : List Instruction) (L : Rooms) (ids : Ids) (lengths : ℕ → �
       let acts : act_on (chain_of code L r p is) (s.place + 1) counts ws ≡ with_place (led_in_buffer (some_below code is path) where_to)
       (λ w. goes_on (s.place + 1) (put_both_at ws (L.slot r) (number_in L.buffers (set, binding)) w)) =
       acts_in_buffer r p (s.place + 1) is form ws q target in_buffer
-      ∙ (buffer_pointed_is counts ws (s.place + 1) (L.slot p) (number_in L.buffers (set, binding)) (word_of_byte byte) (lengths set binding) (L.slot r) q.offset q.steps
+      ∙ (buffer_pointed_is counts ws (s.place + 1) (L.slot p) (number_in L.buffers (set, binding)) (word_of_byte byte) (lengths set binding) (L.slot r) (min q.offset (2 ^ 32 - 1)) q.steps
       stands (one_stands (number_in L.buffers (set, binding)) (lengths set binding) counts (number_of_buffer set binding of form h))
       ∙ ap (λ f. with_place f (λ w. goes_on (s.place + 1) (put_both_at ws (L.slot r) (number_in L.buffers (set, binding)) w)))
-      (places ∙ (ap (λ b. led_in_buffer b (spot (lengths set binding) form (path_of ws (items code L form is)) (4 * x))) (negative_is code L ws form is path walk)
+      (as_far ws (lengths set binding) q.steps (word_of_byte byte) q.offset ∙ places ∙ (ap (λ b. led_in_buffer b (spot (lengths set binding) form (path_of ws (items code L form is)) (4 * x))) (negative_is code L ws form is path walk)
       ∙ (ap (λ y. led_in_buffer (some_below code is path) (spot (lengths set binding) form y (4 * x))) (path_is code L ws form is path walk)
       ∙ ap (λ y. led_in_buffer (some_below code is path) (spot (lengths set binding) form path y)) four)))) in
       let typed = typed_spot code known.facts s.ids (lengths set binding) is path (operand code of 2) (operand code t 2) byte form

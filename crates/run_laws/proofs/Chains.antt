@@ -1,5 +1,5 @@
 -- Chains in variables and in built-in values: both machines lead to the same part, or out of a range.
-use Rattle.std.proofs.Common.{◌≡◌, ℕ, zero, suc, ◌+◌, ◌-◌, ◌^◌, ◌<◌, ◌≤◌, Bool, true, false, cond, nat_eq, List, [], ◌∷◌, ◌++◌, length, Option, Some, None, refl, sym, ap, subst, ◌∙◌, arith}
+use Rattle.std.proofs.Common.{◌≡◌, ℕ, zero, suc, ◌+◌, ◌-◌, ◌^◌, ◌<◌, ◌≤◌, min, Bool, true, false, cond, nat_eq, List, [], ◌∷◌, ◌++◌, length, Option, Some, None, refl, sym, ap, subst, ◌∙◌, arith}
 use Rattle.behavior.specs.Values.{Value, Way, Found, Outside, Wrong, part}
 use Rattle.behavior.specs.Meanings.{Ids}
 use Rattle.spirv_words.specs.declared.opcodes.Op.TheVariants.{AccessChain}
@@ -37,7 +37,7 @@ use Rattle.run_laws.proofs.Writing.{Setup}
 use Rattle.run_laws.proofs.Acting.{Ready, IsResult, result_inside, result_typed}
 use Rattle.run_laws.proofs.Operands.{follows_some, follows_flat}
 use Rattle.run_laws.proofs.Memory.{Found', leads_there}
-use Rattle.run_laws.proofs.Indices.{some_below, indices_are, indices_there, walks, path_is, negative_is, items_there, planned}
+use Rattle.run_laws.proofs.Indices.{as_far, some_below, indices_are, indices_there, walks, path_is, negative_is, items_there, planned}
 
 -- a pointer to a part leads as near as one to the whole
 near_part : (code : List Instruction) (lengths : ℕ → ℕ → ℕ) (place : ℕ) (below : _) (root : Root) (path other : List ℕ)
@@ -94,8 +94,8 @@ module _ (code : List Instruction) (L : Rooms) (ids : Ids) (lengths : ℕ → �
       cond (is_in_buffer code p) (buffer_chain_by code L (buffer_plan f (items code L f is)) p r) (chain_by code L (plan f (items code L f is)) p r))) (s.place + 1) counts ws) target
       ∙ (ap (λ b. flat_act (cond b (buffer_chain_by code L (buffer_plan of (items code L of is)) p r) (chain_by code L (plan of (items code L of is)) p r)) (s.place + 1) counts ws) buffer
       ∙ (ap (λ x. flat_act (chain_by code L x p r) (s.place + 1) counts ws) planned'
-      ∙ (pointed_is ws (s.place + 1) (L.slot p) place (L.slot r) offset steps stands
-      ∙ ap (λ x. with_place x (λ y. goes_on (s.place + 1) (put_at ws (L.slot r) y))) moved)))
+      ∙ (pointed_is ws (s.place + 1) (L.slot p) place (L.slot r) (min offset (2 ^ 32 - 1)) steps stands
+      ∙ ap (λ x. with_place x (λ y. goes_on (s.place + 1) (put_at ws (L.slot r) y))) (as_far ws 0 steps place offset ∙ moved))))
 
   pub variable_chain : (s : State) (ws : List ℕ) (t r p : ℕ) (is : List ℕ) (root : Root) (path : List ℕ) (of : ℕ) (h : LeadsTo code root path of)
       → Ready code L ids lengths s ws AccessChain (t ∷ r ∷ p ∷ is) → operand code p 0 ≡ of → is_pointer code t ≡ true

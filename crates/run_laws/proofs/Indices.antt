@@ -1,5 +1,5 @@
 -- The indices of a chain among the words, and the items that they are planned as.
-use Rattle.std.proofs.Common.{◌≡◌, ℕ, zero, suc, ◌+◌, ◌-◌, ◌^◌, ◌<◌, ◌≤◌, Bool, true, false, ◌&&◌, ◌||◌, cond, nat_eq, nat_lt, List, [], ◌∷◌, length, get_or, Option, Some, None, slice_get, slice_index, refl, sym, ap, subst, ◌∙◌, add-one, arith}
+use Rattle.std.proofs.Common.{◌≡◌, ℕ, zero, suc, ◌+◌, ◌-◌, ◌^◌, ◌<◌, ◌≤◌, min, Bool, true, false, ◌&&◌, ◌||◌, cond, nat_eq, nat_lt, List, [], ◌∷◌, length, get_or, Option, Some, None, slice_get, slice_index, refl, sym, ap, subst, ◌∙◌, add-one, arith}
 use Rattle.std.proofs.lemmas.Bool.{and_parts, leb-true, false_from_ne_true}
 use Rattle.behavior.specs.Values.{Word}
 use Rattle.behavior.specs.Meanings.{Ids}
@@ -13,6 +13,8 @@ use Rattle.flat_values.specs.Pieces.{At, member}
 use Rattle.flat_values.specs.Ranges.{Stands}
 use Rattle.flat_values.proofs.Standing.{stands_at}
 use Rattle.run_actions.specs.declared.actions.Index.{Index}
+use Rattle.run_actions.specs.declared.turns.Followed.TheVariants.{To, Beyond}
+use Rattle.run_actions.specs.Chains.{moved_on, all_chosen, distance}
 use Rattle.action_laws.proofs.Acts.{first_word}
 use Rattle.action_laws.specs.Paths.{Item, Member, Slot, Planned, Plan, NoPlan, moved, stepped, on_piece, plan, path_of, some_negative, AreThere}
 use Rattle.image_lookup.specs.declared.sorts.Sort.{Sort}
@@ -32,6 +34,14 @@ use Rattle.run_rooms.specs.Rooms.{Rooms}
 use Rattle.run_plans.specs.Actions.{slot_item, items}
 use Rattle.run_laws.specs.Together.{Together}
 use Rattle.run_laws.proofs.Writing.{Setup}
+
+-- an offset is told as far as a word tells: no place is behind the last one
+pub as_far : (ws : List ℕ) (words : ℕ) (steps : List Index) (from offset : ℕ) → moved_on ws words steps from (min offset (2 ^ 32 - 1)) ≡ moved_on ws words steps from offset
+as_far ws words steps from offset =
+    ap (λ place. cond (all_chosen ws words steps) (To place) Beyond) (cut from offset (distance ws steps))
+  where
+    cut : (a b c : ℕ) → min (a + min b (2 ^ 32 - 1) + c) (2 ^ 32 - 1) ≡ min (a + b + c) (2 ^ 32 - 1)
+    cut a b c = omega arith
 
 -- ---- small parts
 

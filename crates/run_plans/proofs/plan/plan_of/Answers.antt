@@ -24,8 +24,9 @@ plan_on-requires-clause-ground c =
     let code = c.in_ok-places.places.code in
     let pairs = map pair_of c.in_ok-buffers.buffers in
     let there : c.as_slice.result.now ≡ code = sym c.in_ok-places.ensures.code in
+    let same : c.args.image.now.instructions ≡ code = grind arith in
     record {
-      valid = record { image = c.image.result.now; valid = c.image.ensures.valid; same = sym c.as_slice.ensures ∙ there };
+      valid = record { image = c.args.image.now; valid = c.image.ensures.valid; same = same };
       rooms = opened code (record { places = c.in_ok-places.places; buffers = c.in_ok-buffers.buffers; members = c.in_ok-members.members })
           (subst (λ (is : List Instruction). AreRooms is (rooms_in c.in_ok-places.places pairs)) there (c.in_ok-places.ensures.rooms pairs));
       few = subst (λ (is : List Instruction). length is < 2 ^ 32) there c.in_ok-places.ensures.few;
