@@ -125,7 +125,14 @@ module _ (code : List Instruction) (q : ℕ × ℕ) where
           → (count q (bounds_in code is) ≡ 0) ⊎ IsFound code q (suc k) → (count q (bounds_in code (i ∷ is)) ≡ 0) ⊎ IsFound code q k
       by (inr o) more =
           inr (record {
-            number = k; behind = omega arith; id = o.id; instruction = i; stands = here i is k same; gives = o.gives; buffer = o.buffer; pair = o.pair;
+            number = k;
+            behind = omega arith;
+            id = o.id;
+            instruction = i;
+            stands = here i is k same;
+            gives = o.gives;
+            buffer = o.buffer;
+            pair = o.pair;
           })
       by (inl e) (inl f) = inl (split i is ∙ none (count q (bounds_at code i.op i.operands)) (count q (bounds_in code is)) e f)
         where
@@ -134,7 +141,14 @@ module _ (code : List Instruction) (q : ℕ × ℕ) where
       by (inl e) (inr f) =
           let b = f.behind in
           inr (record {
-            number = f.number; behind = omega arith; id = f.id; instruction = f.instruction; stands = f.stands; gives = f.gives; buffer = f.buffer; pair = f.pair;
+            number = f.number;
+            behind = omega arith;
+            id = f.id;
+            instruction = f.instruction;
+            stands = f.stands;
+            gives = f.gives;
+            buffer = f.buffer;
+            pair = f.pair;
           })
 
 module _ (image : Image) (v : Valid image) (q : ℕ × ℕ) where

@@ -67,13 +67,7 @@ fn part_behind(places: &Ground, type_id: u32, path: &[u32]) -> Part
 }
 
 /// The action that takes a part out of a composite.
-pub fn extract_of(
-    places: &Ground,
-    type_id: u32,
-    to: u32,
-    composite: u32,
-    path: &[u32],
-) -> Action
+pub fn extract_of(places: &Ground, type_id: u32, to: u32, composite: u32, path: &[u32]) -> Action
     requires ground { IsGround places.now }
     requires value { is_value places.now.places.code composite ≡ true }
     requires whole { is_data places.now.places.code (operand places.now.places.code composite 0) ≡ true }

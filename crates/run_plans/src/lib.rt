@@ -16,5 +16,6 @@ mod steps;
 mod words;
 
 pub use base::Bound;
+pub use call_layout::Fault;
 pub use kinds::{Kind, kind_of};
 pub use plan::{Plan, plan_of};

@@ -6,6 +6,7 @@ ghost use Rattle.spirv_words.specs.Step.{State, step as step_of};
 ghost use Rattle.spirv_words.specs.Runs.{setting, start as start_of};
 ghost use Rattle.run_actions.specs.Steps.{flat_step};
 ghost use Rattle.run_buffers.specs.Texts.{IsWord};
+ghost use Rattle.run_plans.specs.Grounds.{IsTooLarge};
 ghost use Rattle.run_buffers.specs.declared.buffer.Buffer.{Buffer};
 ghost use Rattle.run_buffers.specs.declared.ids.Ids.{Ids};
 ghost use Rattle.run_buffers.specs.Invocations.{volume};
@@ -21,7 +22,7 @@ use crate::beginning::begin;
 use crate::binding::bind;
 use crate::turns::Turn;
 use run_buffers::{Buffers, Ids};
-use run_plans::{Bound, Plan, plan_of};
+use run_plans::{Bound, Fault, Plan, plan_of};
 use slang_names::Name;
 use spirv_check::ValidImage;
 use std::alloc::{AllocError, Global};
@@ -50,11 +51,16 @@ impl Model for Runner {
 }
 
 impl Runner {
-    /// A runner of the image.
+    /// A runner of the image. It errs for want of memory, also where a run needs numbers that 32 bits do not tell.
     pub fn new(alloc: Global, image: ValidImage) -> Result<Runner, AllocError>
-        ensures { IfOk result (λ r. image_of r ≡ image) }
+        ensures image { IfOk result (λ r. image_of r ≡ image) }
+        ensures enough { IfOk result (λ r. IsTooLarge image.instructions → ⊥) }
     {
-        let plan = plan_of(alloc, &image)?;
+        let plan = match plan_of(alloc, &image) {
+            Ok(plan) => plan,
+            Err(Fault::Memory(e)) => return Err(e),
+            Err(Fault::TooLarge) => return Err(AllocError),
+        };
         let words = plan.words.as_slice().to_vec(alloc)?;
         let positions = vec![in alloc; 0; plan.buffers.len()]?;
         let counts = vec![in alloc; 0; plan.buffers.len()]?;

@@ -15,6 +15,6 @@ returns c =
     let perm = c.sort_unstable.ensures.permutation in
     let of = c.in_ok-buffers.ensures in
     let few : length sorted ≤ length code =
-        subst (λ (n : ℕ). n ≤ length code) (sym (length_permutation found sorted perm ∙ ap (λ (bs : List Bound). length bs) of)) (fewer code code) in
+    subst (λ (n : ℕ). n ≤ length code) (sym (length_permutation found sorted perm ∙ ap (λ (bs : List Bound). length bs) of)) (fewer code code) in
     let up = ascends code c.requires.valid sorted (subst (λ (bs : List Bound). IsPermutation bs sorted) of perm) c.sort_unstable.ensures.sorted in
     subst (AreBounds code) (sym c.from_vec.ensures) (bounds_are code found sorted of perm up few)

@@ -11,7 +11,7 @@ returns c =
     let of : c.operand.result ≡ operand code (type_id code c.args.id) 2 = grind arith in
     let near = buffer_end code c.requires.valid c.requires.near c.args.id c.requires.buffer in
     let end : c.extent-end.result ≡ min (extent code (operand code (type_id code c.args.id) 2)) (2 ^ 32) =
-        c.extent-end.ensures ∙ ap (λ t. min (extent code t) (2 ^ 32)) of in
+    c.extent-end.ensures ∙ ap (λ t. min (extent code t) (2 ^ 32)) of in
     ap (λ n. (n + 3) / 4) (end ∙ whole _ near) ∙ sym (needs_is code c.requires.valid c.args.id c.requires.buffer)
   where
     whole : (n : ℕ) → n < 2 ^ 32 → min n (2 ^ 32) ≡ n

@@ -39,9 +39,9 @@ loop-id-preserved c =
     let step = c.in-Some.step in
     let here = dropped ids k c.loop-id-test.true in
     let before = subst (λ (rest : List ℕ). HasWalked code L c.args.in_buffer c.args.type_id ids c.loop-id.offset c.loop-id.steps.items at rest) here
-        c.loop-id.invariant.0 in
+    c.loop-id.invariant.0 in
     let there = index_there code at (slice_index_or ids k 0) c.requires.leads.it (drop (k + 1) ids)
-        (ap (chain_end code at) (sym here) ∙ c.loop-id.invariant.1 ∙ c.requires.leads.is) in (
+    (ap (chain_end code at) (sym here) ∙ c.loop-id.invariant.1 ∙ c.requires.leads.is) in (
       subst (λ (t : ℕ). HasWalked code L c.args.in_buffer c.args.type_id ids c.saturating_add-offset.result c.add_step.new.steps.items t (drop (k + 1) ids)) (sym c.type_behind-at.ensures)
           (walked_on code L c.args.in_buffer c.args.type_id ids c.loop-id.offset c.saturating_add-offset.result c.loop-id.steps.items c.add_step.new.steps.items at
           (slice_index_or ids k 0) (drop (k + 1) ids) step before c.in-Some.ensures.step
@@ -60,7 +60,7 @@ returns-in-None c = record {
       let k = c.loop-id.id-index in
       let walk = c.loop-id.invariant.0 in
       let before = subst (λ (rest : List ℕ). IsWalked code L c.args.in_buffer s ids walk.far c.loop-id.steps.items c.loop-id.at rest)
-          (dropped ids k c.loop-id-test.true) (walk.walked s is) in
+      (dropped ids k c.loop-id-test.true) (walk.walked s is) in
       walk_stops code L c.args.in_buffer s ids walk.far c.loop-id.steps.items c.loop-id.at (slice_index_or ids k 0) (drop (k + 1) ids) before c.in-None.ensures.step;
 }
 
@@ -75,7 +75,7 @@ returns c =
       cut = walk.cut;
       leads = λ s is.
           let before = subst (λ (rest : List ℕ). IsWalked code L c.args.in_buffer s ids walk.far c.loop-id.steps.items c.loop-id.at rest)
-              (dropped_all ids c.loop-id.id-index c.loop-id-test.false) (walk.walked s is) in
+          (dropped_all ids c.loop-id.id-index c.loop-id-test.false) (walk.walked s is) in
           let end = walk_ends code L c.args.in_buffer s ids walk.far c.loop-id.steps.items c.loop-id.at before in
           subst (λ (steps : List Index). (x : Shape) × (planned c.args.in_buffer s (items code L s ids) ≡ Plan walk.far steps x)) (sym c.from_vec.ensures) end;
     }

@@ -16,7 +16,7 @@ pub part_behind-part-requires-clause-leads : goal.part_behind-part-requires-clau
 part_behind-part-requires-clause-leads c =
     let code = c.args.places.now.places.code in
     let whole : c.operand.result ≡ operand code c.args.composite 0 =
-        c.operand.ensures ∙ ap (λ (is : List Instruction). operand is c.args.composite 0) c.declarations.ensures in
+    c.operand.ensures ∙ ap (λ (is : List Instruction). operand is c.args.composite 0) c.declarations.ensures in
     record { it = c.args.type_id; is = ap (λ t. extract_end code t c.args.path.now) whole ∙ c.requires.leads }
 
 pub overflow_add-result : goal.overflow_add-result
@@ -25,11 +25,11 @@ overflow_add-result c =
     let code = g.places.code in
     let x = c.args.composite in
     let whole : c.operand.result ≡ operand code x 0 =
-        c.operand.ensures ∙ ap (λ (is : List Instruction). operand is x 0) c.declarations.ensures in
+    c.operand.ensures ∙ ap (λ (is : List Instruction). operand is x 0) c.declarations.ensures in
     let room = slot_fits code c.requires.ground.valid (rooms_of g) c.requires.ground.rooms x c.requires.value in
     let size = data_width code c.requires.ground.valid (type_id code x) c.requires.whole in
     let inside = subst (λ (t : ℕ). c.part_behind-part.result.place + width_at code c.part_behind-part.result.type_id ≤ width_at code t) whole
-        c.part_behind-part.ensures.inside in
+    c.part_behind-part.ensures.inside in
     record { fits = below _ _ _ _ _ _ c.slot.ensures inside size room }
   where
     below : (s p w a n slot : ℕ) → s ≡ slot → p + w ≤ a → n ≡ a → slot + n < 2 ^ 32 → s + p < 2 ^ 32
@@ -41,7 +41,7 @@ returns c =
     let L = rooms_of c.args.places.now in
     let x = c.args.composite in
     let whole : c.operand.result ≡ type_id code x =
-        c.operand.ensures ∙ ap (λ (is : List Instruction). operand is x 0) c.declarations.ensures in
+    c.operand.ensures ∙ ap (λ (is : List Instruction). operand is x 0) c.declarations.ensures in
     let shape = data_shape code c.requires.ground.valid (type_id code x) c.requires.whole in
     let part = c.part_behind-part.result in
     ap (λ n. Copy (record { from = c.slot.result + part.place; to = n; count = c.size_of.result })) c.slot-2.ensures

@@ -31,5 +31,5 @@ returns c =
     let n = c.args.number in
     let l = ltb-true n (length c.row_in.result.now) (sym c.in-Some.ensures.lookup.0) in
     let there : slice_get c.row_in.result.now n ≡ Some c.in-Some.place.now =
-        slice_get-get_or c.row_in.result.now n _ l ∙ ap (λ p. Some p) (sym c.in-Some.ensures.lookup.1) in
+    slice_get-get_or c.row_in.result.now n _ l ∙ ap (λ p. Some p) (sym c.in-Some.ensures.lookup.1) in
     (c.requires.ground.rows.each t).tells n c.in-Some.place.now (ap (λ (row : List ℕ). slice_get row n) (sym c.row_in.ensures) ∙ there)

@@ -17,6 +17,6 @@ returns c =
     let parts = and_parts (is_value code x) (is_int code t) c.requires.index in
     let inner : c.operand.result ≡ t = c.operand.ensures ∙ ap (λ (is : List Instruction). operand is x 0) c.declarations-declarations.ensures in
     let same : c.operand-2.result ≡ operand code t 2 =
-        c.operand-2.ensures ∙ ap (λ (is : List Instruction). operand is c.operand.result 2) c.declarations-declarations.ensures ∙ ap (λ n. operand code n 2) inner in
+    c.operand-2.ensures ∙ ap (λ (is : List Instruction). operand is c.operand.result 2) c.declarations-declarations.ensures ∙ ap (λ n. operand code n 2) inner in
     ap (λ n. nat_eq n 1) same
     ∙ sym (signed_is code c.requires.ground.valid x parts.0 ∙ ap (λ (o : Option Shape). is_signed o) (int_shape code c.requires.ground.valid t (int-sort code t parts.1)))
