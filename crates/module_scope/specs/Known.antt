@@ -1,14 +1,14 @@
 -- What is known of the declarations of a module.
-use Rattle.std.specs.Prelude.{ℕ, Bool, false, List, [], ◌∷◌, slice_get, Option, Some, None, option_and_then}
+use Rattle.std.specs.Prelude.{ℕ, Bool, false, List, [], ◌∷◌, slice_get, Option, Some, None}
 use Rattle.std.specs.Option.{option_map}
 use Rattle.slang_names.specs.declared.names.Ref.{Ref}
 use Rattle.slang_core.specs.declared.types.TypeTerm.{TypeTerm}
 use Rattle.slang_core.specs.declared.types.TypeTerm.TheVariants as ty
 use Rattle.type_terms.specs.declared.typings.Fixed.{Fixed}
 use Rattle.name_lists.specs.Names.{last_place}
-use Rattle.module_scope.specs.declared.declared.Declared.{Declared}
-use Rattle.module_scope.specs.declared.declared.StructNames.{StructNames}
-use Rattle.module_scope.specs.declared.declared.FieldAt.{FieldAt}
+use Rattle.declared_names.specs.declared.declared.Declared.{Declared}
+use Rattle.declared_names.specs.declared.declared.StructNames.{StructNames}
+use Rattle.declared_names.specs.declared.declared.FieldAt.{FieldAt}
 use Rattle.module_scope.specs.declared.heads.Outline.{Outline}
 use Rattle.module_scope.specs.declared.heads.Head.{Head}
 use Rattle.module_scope.specs.declared.heads.Head.TheVariants as h

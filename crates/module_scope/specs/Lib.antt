@@ -1,5 +1,4 @@
 pub mod Sees
 pub mod Known
-pub mod Declarations
-pub mod Declares
-pub mod Twice
+pub mod Views
+pub mod Innermost

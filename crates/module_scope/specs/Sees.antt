@@ -7,12 +7,12 @@ use Rattle.slang_names.specs.declared.places.Access.TheVariants as a
 use Rattle.slang_names.specs.declared.codes.ModuleCode.{ModuleCode}
 use Rattle.slang_names.specs.declared.codes.ModuleCode.TheVariants as k
 use Rattle.name_lists.specs.Names.{last_place}
-use Rattle.module_scope.specs.declared.declared.Declared.{Declared}
-use Rattle.module_scope.specs.declared.declared.Own.{Own}
-use Rattle.module_scope.specs.declared.declared.OwnKind.{OwnKind}
-use Rattle.module_scope.specs.declared.declared.StructNames.{StructNames}
-use Rattle.module_scope.specs.declared.declared.MemberName.{MemberName}
-use Rattle.module_scope.specs.declared.declared.MemberKind.{MemberKind}
+use Rattle.declared_names.specs.declared.declared.Declared.{Declared}
+use Rattle.declared_names.specs.declared.declared.Own.{Own}
+use Rattle.declared_names.specs.declared.declared.OwnKind.{OwnKind}
+use Rattle.declared_names.specs.declared.declared.StructNames.{StructNames}
+use Rattle.declared_names.specs.declared.declared.MemberName.{MemberName}
+use Rattle.declared_names.specs.declared.declared.MemberKind.{MemberKind}
 use Rattle.module_scope.specs.declared.frames.InForce.{InForce}
 use Rattle.module_scope.specs.declared.frames.Local.{Local}
 

@@ -1,6 +1,6 @@
 // What is known of declarations without the bodies of functions.
 
-use crate::Declared;
+use declared_names::Declared;
 use slang_core::{Entry, Flags, Par, TypeTerm};
 use slang_names::Ref;
 use sqlite_items::Items;

@@ -16,10 +16,10 @@ use Rattle.slang_tree.specs.declared.expressions.ExprNode.TheOpen.{ExprNode-F, E
 use Rattle.slang_tree.specs.declared.expressions.ExprNode.TheOpen as e
 use Rattle.slang_core.specs.declared.types.TypeTerm.{TypeTerm}
 use Rattle.plans.specs.Plans.{run, Verdict, Good}
-use Rattle.module_scope.specs.declared.declared.OwnKind.{OwnKind}
-use Rattle.module_scope.specs.declared.declared.OwnKind.TheVariants as own
-use Rattle.module_scope.specs.declared.declared.MemberKind.{MemberKind}
-use Rattle.module_scope.specs.declared.declared.MemberKind.TheVariants as m
+use Rattle.declared_names.specs.declared.declared.OwnKind.{OwnKind}
+use Rattle.declared_names.specs.declared.declared.OwnKind.TheVariants as own
+use Rattle.declared_names.specs.declared.declared.MemberKind.{MemberKind}
+use Rattle.declared_names.specs.declared.declared.MemberKind.TheVariants as m
 use Rattle.module_scope.specs.declared.heads.Outline.{Outline}
 use Rattle.module_scope.specs.declared.frames.Within.{Within}
 use Rattle.module_scope.specs.Sees.{Found, a_member, an_own, look_up, member_named}

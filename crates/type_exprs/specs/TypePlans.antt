@@ -11,10 +11,10 @@ use Rattle.slang_tree.specs.declared.statements.DeclaredName.{DeclaredName}
 use Rattle.slang_core.specs.declared.types.TypeTerm.{TypeTerm}
 use Rattle.plans.specs.Plans.{line, one, walk}
 use Rattle.slang_names.specs.declared.codes.ModuleCode.{ModuleCode}
-use Rattle.module_scope.specs.declared.declared.OwnKind.{OwnKind}
-use Rattle.module_scope.specs.declared.declared.OwnKind.TheVariants as own
-use Rattle.module_scope.specs.declared.declared.MemberKind.{MemberKind}
-use Rattle.module_scope.specs.declared.declared.MemberKind.TheVariants as m
+use Rattle.declared_names.specs.declared.declared.OwnKind.{OwnKind}
+use Rattle.declared_names.specs.declared.declared.OwnKind.TheVariants as own
+use Rattle.declared_names.specs.declared.declared.MemberKind.{MemberKind}
+use Rattle.declared_names.specs.declared.declared.MemberKind.TheVariants as m
 use Rattle.module_scope.specs.declared.heads.Outline.{Outline}
 use Rattle.module_scope.specs.declared.heads.Spelling.{Spelling}
 use Rattle.module_scope.specs.declared.frames.InForce.{InForce}

@@ -29,11 +29,11 @@ use Rattle.type_terms.specs.Types.{is_void, is_whole, is_resource, same, numeric
 use Rattle.type_terms.specs.Values.{value_of}
 use Rattle.plans.specs.Plans.{Verdict, Good, Held, Wrong}
 use Rattle.plans.specs.Lines.{demand, found, known, and_then}
-use Rattle.module_scope.specs.declared.declared.Declared.{Declared}
+use Rattle.declared_names.specs.declared.declared.Declared.{Declared}
 use Rattle.module_scope.specs.declared.heads.Head.{Head}
 use Rattle.module_scope.specs.declared.heads.Head.TheVariants as h
 use Rattle.module_scope.specs.declared.heads.Signature.{Signature}
-use Rattle.module_scope.specs.Declarations.{is_plain}
+use Rattle.declared_names.specs.Declarations.{is_plain}
 use Rattle.module_scope.specs.Known.{struct_ref}
 use Rattle.type_lines.specs.Asked.{is_there, is_empty, attribute_named, has_attribute, has_entry_word, shader_word, numthreads_word, mutating_word}
 use Rattle.type_lines.specs.ValueLines.{core_of}

@@ -23,11 +23,11 @@ use Rattle.type_terms.specs.Types.{is_resource, is_read_only, is_uint, number_ty
 use Rattle.type_terms.specs.Forms.{value, place, typed, read_of, field_form, component_form, element_form, number_expr, truth_expr, fixed_typing}
 use Rattle.plans.specs.Plans.{Verdict, Good, Held, Wrong}
 use Rattle.plans.specs.Lines.{demand, found, known}
-use Rattle.module_scope.specs.declared.declared.Declared.{Declared}
-use Rattle.module_scope.specs.declared.declared.OwnKind.{OwnKind}
-use Rattle.module_scope.specs.declared.declared.OwnKind.TheVariants as own
-use Rattle.module_scope.specs.declared.declared.MemberKind.{MemberKind}
-use Rattle.module_scope.specs.declared.declared.MemberKind.TheVariants as m
+use Rattle.declared_names.specs.declared.declared.Declared.{Declared}
+use Rattle.declared_names.specs.declared.declared.OwnKind.{OwnKind}
+use Rattle.declared_names.specs.declared.declared.OwnKind.TheVariants as own
+use Rattle.declared_names.specs.declared.declared.MemberKind.{MemberKind}
+use Rattle.declared_names.specs.declared.declared.MemberKind.TheVariants as m
 use Rattle.module_scope.specs.declared.heads.Outline.{Outline}
 use Rattle.module_scope.specs.declared.heads.Signature.{Signature}
 use Rattle.module_scope.specs.declared.frames.InForce.{InForce}

@@ -34,7 +34,7 @@ use Rattle.type_lines.specs.declared.answers.LocalGiven.{LocalGiven}
 use Rattle.type_lines.specs.declared.answers.OperatorKind.{OperatorKind}
 use Rattle.type_lines.specs.declared.answers.OperatorKind.TheVariants as kind
 use Rattle.type_lines.specs.Asked.{operator_kind, is_there}
-use Rattle.module_scope.specs.declared.declared.FieldAt.{FieldAt}
+use Rattle.declared_names.specs.declared.declared.FieldAt.{FieldAt}
 use Rattle.type_lines.specs.ValueLines.{fitted, core_of, joint_size}
 use Rattle.type_lines.specs.CallLines.{written}
 

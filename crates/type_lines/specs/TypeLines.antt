@@ -18,10 +18,10 @@ use Rattle.type_terms.specs.declared.typings.Fixed.{Fixed}
 use Rattle.type_terms.specs.Types.{is_void, is_whole, nodes}
 use Rattle.plans.specs.Plans.{Verdict, Good, Held, Wrong}
 use Rattle.plans.specs.Lines.{demand, found, known}
-use Rattle.module_scope.specs.declared.declared.OwnKind.{OwnKind}
-use Rattle.module_scope.specs.declared.declared.OwnKind.TheVariants as own
-use Rattle.module_scope.specs.declared.declared.MemberKind.{MemberKind}
-use Rattle.module_scope.specs.declared.declared.MemberKind.TheVariants as m
+use Rattle.declared_names.specs.declared.declared.OwnKind.{OwnKind}
+use Rattle.declared_names.specs.declared.declared.OwnKind.TheVariants as own
+use Rattle.declared_names.specs.declared.declared.MemberKind.{MemberKind}
+use Rattle.declared_names.specs.declared.declared.MemberKind.TheVariants as m
 use Rattle.module_scope.specs.declared.heads.Outline.{Outline}
 use Rattle.module_scope.specs.declared.frames.InForce.{InForce}
 use Rattle.module_scope.specs.declared.frames.Within.{Within}

@@ -15,8 +15,8 @@ use Rattle.module_scope.specs.declared.heads.Head.{Head}
 use Rattle.module_scope.specs.declared.heads.Outline.{Outline}
 use Rattle.module_scope.specs.declared.heads.Signature.{Signature}
 use Rattle.module_scope.specs.Known.{function_at}
-use Rattle.module_scope.specs.Declarations.{Declaration, Node, a_struct, an_alias, a_function, some_fields, a_constant, a_global, an_unbuilt, declarations}
-use Rattle.module_scope.specs.Twice.{twice_line, refused_twice, first_twice, all_names}
+use Rattle.declared_names.specs.Declarations.{Declaration, Node, a_struct, an_alias, a_function, some_fields, a_constant, a_global, an_unbuilt, declarations}
+use Rattle.repeated_names.specs.Twice.{twice_line, refused_twice, first_twice, all_names}
 use Rattle.type_lines.specs.Classes.{Class, Answer, Does, checks, modules, some_heads, some_bodies}
 use Rattle.type_rules.specs.HeadPlans.{judged_plan, next_head, settled, outline_of}
 use Rattle.type_rules.specs.StatementPlans.{certain, body_plan}

@@ -6,12 +6,12 @@ use Rattle.slang_core.specs.declared.types.TypeTerm.{TypeTerm, fold-TypeTerm}
 use Rattle.slang_core.specs.declared.types.Arg.TheOpen.{TypeTerm-F, Arg-F}
 use Rattle.slang_core.specs.declared.types.Arg.TheOpen as t
 use Rattle.plans.specs.Plans.{Verdict, Good, Wrong}
-use Rattle.module_scope.specs.declared.declared.Declared.{Declared}
-use Rattle.module_scope.specs.declared.declared.FieldAt.{FieldAt}
-use Rattle.module_scope.specs.declared.declared.StructNames.{StructNames}
+use Rattle.declared_names.specs.declared.declared.Declared.{Declared}
+use Rattle.declared_names.specs.declared.declared.FieldAt.{FieldAt}
+use Rattle.declared_names.specs.declared.declared.StructNames.{StructNames}
 use Rattle.module_scope.specs.declared.heads.Outline.{Outline}
 use Rattle.module_scope.specs.Known.{field_type, number_of_struct}
-use Rattle.module_scope.specs.Declarations.{Declaration, Node, a_struct}
+use Rattle.declared_names.specs.Declarations.{Declaration, Node, a_struct}
 use Rattle.type_rules.specs.Leading.{edges_from, leads}
 
 abbrev pub all_of : List (List Ref) → List Ref

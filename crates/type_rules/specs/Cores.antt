@@ -17,7 +17,7 @@ use Rattle.module_scope.specs.declared.heads.Head.TheVariants as h
 use Rattle.module_scope.specs.declared.heads.Outline.{Outline}
 use Rattle.module_scope.specs.declared.heads.Signature.{Signature}
 use Rattle.module_scope.specs.Known.{head_at, fields_in, alias_in, struct_ref}
-use Rattle.module_scope.specs.Declarations.{Declaration, Node, a_struct, an_alias, a_function, some_fields, a_constant, a_global}
+use Rattle.declared_names.specs.Declarations.{Declaration, Node, a_struct, an_alias, a_function, some_fields, a_constant, a_global}
 
 abbrev pub no_params : Params
 no_params = record { list = []; constraints = [] }

@@ -5,7 +5,7 @@ use Rattle.slang_tree.specs.declared.statements.DeclaredName.{DeclaredName}
 use Rattle.slang_tree.specs.declared.declarations.Parameter.{Parameter}
 use Rattle.module_scope.specs.declared.heads.Outline.{Outline}
 use Rattle.module_scope.specs.declared.frames.Within.{Within}
-use Rattle.module_scope.specs.Declarations.{Declaration, Node, a_struct, an_alias, a_function, some_fields, a_constant, a_global, an_unbuilt}
+use Rattle.declared_names.specs.Declarations.{Declaration, Node, a_struct, an_alias, a_function, some_fields, a_constant, a_global, an_unbuilt}
 use Rattle.type_exprs.specs.Needs.{type_needs, lengths_need, expr_needs}
 use Rattle.type_rules.specs.Leading.{edges_from}
 use Rattle.type_rules.specs.HeadPlans.{in_head}

@@ -22,8 +22,8 @@ use Rattle.module_scope.specs.declared.heads.Outline.{Outline}
 use Rattle.module_scope.specs.declared.heads.Spelling.{Spelling}
 use Rattle.module_scope.specs.declared.frames.Within.{Within}
 use Rattle.module_scope.specs.Known.{nothing_spelled}
-use Rattle.module_scope.specs.Declarations.{Declaration, Node, a_struct, an_alias, a_function, some_fields, a_constant, a_global, an_unbuilt}
-use Rattle.module_scope.specs.Declares.{declared_of}
+use Rattle.declared_names.specs.Declarations.{Declaration, Node, a_struct, an_alias, a_function, some_fields, a_constant, a_global, an_unbuilt}
+use Rattle.declared_names.specs.Declares.{declared_of}
 use Rattle.type_lines.specs.declared.answers.Standing.TheVariants as st
 use Rattle.type_lines.specs.Classes.{Does, types, named_types, parameters, heads, some_heads}
 use Rattle.type_lines.specs.HeadLines.{alias_head, fields_head, global_head, constant_head, function_head, entry_line}

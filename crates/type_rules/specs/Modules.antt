@@ -15,8 +15,8 @@ use Rattle.module_scope.specs.declared.heads.Head.{Head}
 use Rattle.module_scope.specs.declared.heads.Outline.{Outline}
 use Rattle.module_scope.specs.Known.{function_at}
 use Rattle.module_scope.specs.declared.heads.Signature.{Signature}
-use Rattle.module_scope.specs.Declarations.{Declaration, Node, a_function, declarations}
-use Rattle.module_scope.specs.Twice.{twice_line}
+use Rattle.declared_names.specs.Declarations.{Declaration, Node, a_function, declarations}
+use Rattle.repeated_names.specs.Twice.{twice_line}
 use Rattle.type_lines.specs.Classes.{Does, checks, some_bodies, modules}
 use Rattle.type_rules.specs.HeadPlans.{outline_of, next_head, settled}
 use Rattle.type_rules.specs.StatementPlans.{certain, body_plan}

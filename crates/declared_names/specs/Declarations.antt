@@ -1,5 +1,5 @@
 -- The declarations of a file in text order, members behind their struct.
-use Rattle.std.specs.Prelude.{ℕ, ◌+◌, Bool, true, false, ◌&&◌, ◌||◌, not, cond, List, [], ◌∷◌, ◌++◌, length, Option, Some, None, fold}
+use Rattle.std.specs.Prelude.{ℕ, ◌+◌, Bool, true, false, ◌&&◌, cond, List, [], ◌∷◌, ◌++◌, length, Option, Some, None, fold}
 use Rattle.std.specs.List.{list_all}
 use Rattle.slang_names.specs.declared.places.Place.{Place}
 use Rattle.slang_names.specs.declared.places.Access.{Access}

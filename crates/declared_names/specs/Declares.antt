@@ -3,17 +3,14 @@ use Rattle.std.specs.Prelude.{ℕ, ◌+◌, List, [], ◌∷◌, ◌++◌, lengt
 use Rattle.slang_names.specs.declared.places.Place.{Place}
 use Rattle.slang_names.specs.declared.places.Access.{Access}
 use Rattle.slang_tree.specs.declared.statements.DeclaredName.{DeclaredName}
-use Rattle.slang_tree.specs.declared.file.File.{File}
-use Rattle.module_scope.specs.declared.declared.Declared.{Declared}
-use Rattle.module_scope.specs.declared.declared.Own.{Own}
-use Rattle.module_scope.specs.declared.declared.OwnKind.{OwnKind}
-use Rattle.module_scope.specs.declared.declared.OwnKind.TheVariants as o
-use Rattle.module_scope.specs.declared.declared.StructNames.{StructNames}
-use Rattle.module_scope.specs.declared.declared.MemberName.{MemberName}
-use Rattle.module_scope.specs.declared.declared.MemberKind.{MemberKind}
-use Rattle.module_scope.specs.declared.declared.MemberKind.TheVariants as m
-use Rattle.module_scope.specs.declared.declared.FieldAt.{FieldAt}
-use Rattle.module_scope.specs.Declarations.{Declaration, Node, a_struct, an_alias, a_function, some_fields, a_constant, a_global, an_unbuilt, declarations}
+use Rattle.declared_names.specs.declared.declared.Declared.{Declared}
+use Rattle.declared_names.specs.declared.declared.OwnKind.{OwnKind}
+use Rattle.declared_names.specs.declared.declared.OwnKind.TheVariants as o
+use Rattle.declared_names.specs.declared.declared.StructNames.{StructNames}
+use Rattle.declared_names.specs.declared.declared.MemberKind.{MemberKind}
+use Rattle.declared_names.specs.declared.declared.MemberKind.TheVariants as m
+use Rattle.declared_names.specs.declared.declared.FieldAt.{FieldAt}
+use Rattle.declared_names.specs.Declarations.{Declaration, Node, a_struct, an_alias, a_function, some_fields, a_constant, a_global, an_unbuilt}
 
 -- ---- one more name of the module, of a struct
 

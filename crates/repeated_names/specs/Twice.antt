@@ -16,7 +16,7 @@ use Rattle.slang_tree.specs.declared.statements.StatNode.TheOpen as s
 use Rattle.slang_tree.specs.declared.declarations.Parameter.{Parameter}
 use Rattle.slang_tree.specs.declared.declarations.Function.{Function}
 use Rattle.plans.specs.Plans.{Verdict, Good, Wrong}
-use Rattle.module_scope.specs.Declarations.{Declaration, Node, a_struct, an_alias, a_function, some_fields, a_constant, a_global, an_unbuilt}
+use Rattle.declared_names.specs.Declarations.{Declaration, Node, a_struct, an_alias, a_function, some_fields, a_constant, a_global, an_unbuilt}
 
 -- the names of the module; the members of a struct; the parameters of a function, or the locals of a block or a `for`, told
 -- by the byte at which it begins

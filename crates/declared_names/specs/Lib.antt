@@ -1,0 +1,4 @@
+pub mod Declarations
+pub mod Declares
+pub mod Views
+pub mod Inside

@@ -1,0 +1,2 @@
+//! The first name that stands twice in its group.
+#![tactic(auto)]
