@@ -1,5 +1,5 @@
 -- A program: the cores of its modules, and the function that a device starts. What a name in it stands for.
-use Rattle.std.specs.Prelude.{ℕ, ◌+◌, Bool, not, ◌&&◌, cond, bytes_eq, List, [], ◌∷◌, length, map, Option, Some, None, is_some}
+use Rattle.std.specs.Prelude.{ℕ, Bool, not, ◌&&◌, cond, bytes_eq, List, [], ◌∷◌, map, Option, Some, None, is_some}
 use Rattle.slang_names.specs.declared.names.Ref.{Ref}
 use Rattle.slang_names.specs.declared.places.Mode.{Mode}
 use Rattle.slang_names.specs.declared.places.Mode.TheVariants as mode
@@ -52,11 +52,6 @@ struct_of p r = if_some (module_named p.modules r.module) None (λ m. struct_in 
 
 abbrev pub global_of : CoreProgram → Ref → Option GlobalDecl
 global_of p r = if_some (module_named p.modules r.module) None (λ m. global_in m.own.decls r.path)
-
--- no chain of structs, each the type of a field of the one before, is longer
-abbrev pub declared_in : List CoreModule → ℕ
-declared_in [] = 0
-declared_in (m ∷ ms) = length m.own.decls + declared_in ms
 
 -- a method that is not static has a receiver
 abbrev pub has_receiver : FunctionDecl → Bool

@@ -12,7 +12,7 @@ use Rattle.slang_core.specs.declared.types.Arg.TheOpen as term
 use Rattle.behavior.specs.Values.{Value, Values, Truth, Word, Whole, NoMore, Then}
 use Rattle.spirv_words.specs.Machine.{repeated, if_some}
 use Rattle.core_reading.specs.Ground.{Ground, Void, Logical, Scalar, Vector, ArrayOf, StructOf, Structured, ConstantData, Block, NoType, Arguments, NoArgument, TypeArgument, NumberArgument, type_at, number_at}
-use Rattle.core_reading.specs.Programs.{CoreProgram, struct_of, declared_in}
+use Rattle.core_reading.specs.Programs.{CoreProgram, struct_of}
 
 abbrev pub is_int : Kind → Bool
 is_int kind.Int = true
@@ -96,6 +96,10 @@ abbrev pub struct_zeros : CoreProgram → ℕ → Ref → Arguments → Values
 struct_zeros p zero r given = NoMore
 struct_zeros p (suc depth) r given = zeros_with (zero_with (struct_zeros p depth)) (field_types p r given)
 
--- a struct does not contain itself, so no more stand in one another than there are declarations
+-- no more structs stand in one another in a program that is accepted: none contains itself, and no more types than these are made
+-- of it. With type arguments a struct may stand in one of its own name, so the number of declarations would not do
+unfoldable pub most_structs : ℕ
+most_structs = 16384
+
 abbrev pub zero_of : CoreProgram → Ground → Value
-zero_of p t = zero_with (struct_zeros p (declared_in p.modules)) t
+zero_of p t = zero_with (struct_zeros p most_structs) t
