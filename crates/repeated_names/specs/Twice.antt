@@ -3,8 +3,6 @@ use Rattle.std.specs.Prelude.{ℕ, Bool, true, false, ◌&&◌, ◌||◌, cond, 
 use Rattle.slang_names.specs.declared.places.Place.{Place}
 use Rattle.slang_names.specs.declared.codes.ModuleCode.TheVariants as k
 use Rattle.slang_tree.specs.declared.types.Identifier.{Identifier}
-use Rattle.slang_tree.specs.declared.statements.DeclaredName.{DeclaredName}
-use Rattle.slang_tree.specs.declared.statements.LocalName.{LocalName}
 use Rattle.slang_tree.specs.declared.statements.Local.{Local}
 use Rattle.slang_tree.specs.declared.statements.LoopStart.{LoopStart}
 use Rattle.slang_tree.specs.declared.statements.LoopStart.TheVariants as b
