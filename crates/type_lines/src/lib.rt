@@ -2,5 +2,10 @@
 #![tactic(auto)]
 
 mod answers;
+mod asked;
 
 pub use answers::{Callee, Denoted, LocalGiven, OperatorKind, Reach, Standing, Use};
+pub use asked::{
+    attribute_named, bars_void, builtin_type, has_attribute, has_entry_word, inner_use, is_called,
+    is_field, is_global, is_uint_number, is_value, operator_kind,
+};
