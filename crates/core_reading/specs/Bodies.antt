@@ -18,7 +18,7 @@ use Rattle.slang_core.specs.declared.bodies.UnaryOp.{UnaryOp}
 use Rattle.slang_core.specs.declared.bodies.UnaryOp.TheVariants as un
 use Rattle.spirv_words.specs.Machine.{if_some}
 use Rattle.shader_kernel.specs.Kernel as k
-use Rattle.core_reading.specs.Ground.{Ground, Logical, Scalar, Vector, ArrayOf, StructOf, Structured, ConstantData, Block, NoType, Arguments, is_signed, is_logical, converted_type, size_of, element_type, is_resource}
+use Rattle.core_reading.specs.Ground.{Ground, Logical, Scalar, Vector, ArrayOf, StructOf, Structured, ConstantData, Block, NoType, Arguments, is_signed, is_logical, converted_type, size_of, element_type, is_resource, NoArgument}
 use Rattle.core_reading.specs.Programs.{CoreProgram, Defined, function_of, global_of, modes_of}
 use Rattle.core_reading.specs.Types.{ground_type, ground_arguments, value_in, fields_of, field_type, or_no_type}
 use Rattle.core_reading.specs.Frames.{Target, Callee, OfGlobal, PlainFields, OfField, Frame, Typed, ReadPlace, InPlace, InBlock, ReadGiven, GivenValue, GivenPlace, ReadCall, ReadStat}
@@ -124,8 +124,9 @@ module _ (f : Frame) where
   global_place r (Block of) = InBlock r of
   global_place r t = data_of (f.buffer (OfGlobal r)) NoType
 
+  -- a global has no parameters, so its type is read without arguments
   abbrev pub type_of_global : Ref → Ground
-  type_of_global r = if_some (global_of f.program r) NoType (λ g. ground_type f.arguments g.of)
+  type_of_global r = if_some (global_of f.program r) NoType (λ g. ground_type NoArgument g.of)
 
   -- a field of a block: a buffer of its own, or one of the plain fields, which stand together in one buffer
   abbrev pub block_field : Ref → Ground → ℕ → Ground → ReadPlace
@@ -239,9 +240,9 @@ module _ (f : Frame) where
   expr_layer (core.Fixed v) = typed (Scalar true) (k.Known (k.Number true (value_in f.arguments v)))
 
   abbrev pub place_layer : PlaceTerm-F ReadCall Typed ReadGiven ReadPlace → ReadPlace
-  -- a parameter or local, numbered without the receiver; the receiver itself
+  -- a parameter or local, numbered without the receiver; the receiver itself, which no local stands for where there is none
   place_layer (core.Local n) = local_place (number_of_local n)
-  place_layer core.This = local_place 0
+  place_layer core.This = cond f.has_this (local_place 0) (local_place (length f.locals))
   -- a buffer or a block of the program
   place_layer (core.Global r) = global_place r (type_of_global r)
   -- a part of a place, with the numbers that lead to the place before its own

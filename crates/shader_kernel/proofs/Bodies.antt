@@ -1,5 +1,5 @@
 -- Bodies with more to go on.
-use Rattle.std.proofs.Common.{ℕ, ◌+◌, ◌/◌, ◌≤◌, true, false, List, [], ◌∷◌, ◌++◌, Some, None}
+use Rattle.std.proofs.Common.{ℕ, ◌+◌, ◌/◌, ◌≤◌, Bool, true, false, List, [], ◌∷◌, ◌++◌, Some, None}
 use Rattle.std.specs.Prelude.{slice_get, map}
 use Rattle.behavior.specs.Values.{Value, Values, Truth, Word, Whole, NoMore, Then, part, put_part}
 use Rattle.behavior.specs.Meanings.{Undefined, Stuck}
@@ -98,12 +98,12 @@ module _ (more : List ℕ) (k : ℕ) where
     give_back_steady (Borrowed v root numbers like ∷ ts) (x ∷ xs) =
         next_steady more k (write_place s root numbers like x) (write_place s root numbers like x) (give_back s ts xs) (give_back s ts xs) (write_place_steady root numbers like x) (give_back_steady ts xs)
 
-    module _ {C T : Type 0} (zero_of : T → Value) (calls calls' : Calls C) (sound : (callee : C) (arguments : List Argument) → Steady more k (call_with s zero_of calls callee arguments) (call_with s zero_of calls' callee arguments)) where
-      call_steady : (callee : C) (taken : List Taken) → Steady more k (call_means s zero_of calls callee taken) (call_means s zero_of calls' callee taken)
-      call_steady callee taken =
+    module _ {C T : Type 0} (zero_of : T → Value) (calls calls' : Calls C) (sound : (callee : C) (wanted : Bool) (arguments : List Argument) → Steady more k (call_with s zero_of calls callee wanted arguments) (call_with s zero_of calls' callee wanted arguments)) where
+      call_steady : (callee : C) (wanted : Bool) (taken : List Taken) → Steady more k (call_means s zero_of calls callee wanted taken) (call_means s zero_of calls' callee wanted taken)
+      call_steady callee wanted taken =
           let after : Finals → Action Finals = λ f. and_with (give_back s taken f.parameters) (λ done. gives f) in
-          pay_steady more k (and_with (call_with s zero_of calls callee (map argument_of taken)) after) (and_with (call_with s zero_of calls' callee (map argument_of taken)) after)
-          (with_steady more k (call_with s zero_of calls callee (map argument_of taken)) (call_with s zero_of calls' callee (map argument_of taken)) after after (sound callee (map argument_of taken)) (λ f.
+          pay_steady more k (and_with (call_with s zero_of calls callee wanted (map argument_of taken)) after) (and_with (call_with s zero_of calls' callee wanted (map argument_of taken)) after)
+          (with_steady more k (call_with s zero_of calls callee wanted (map argument_of taken)) (call_with s zero_of calls' callee wanted (map argument_of taken)) after after (sound callee wanted (map argument_of taken)) (λ f.
           same_with (give_back s taken f.parameters) (λ done. gives f) (λ done. gives f) (give_back_steady taken f.parameters) (λ done. gives_steady more k f)))
 
       mutual
@@ -135,8 +135,8 @@ module _ (more : List ℕ) (k : ℕ) where
             either_steady more k t (expr_means s zero_of calls a) (expr_means s zero_of calls' a) (expr_means s zero_of calls b) (expr_means s zero_of calls' b) (expr_steady a) (expr_steady b)))
         expr_steady (Call callee of given) =
             let go : Finals → Action Value = λ f. with_some f.value gives in
-            with_steady more k (givens_mean s zero_of calls given) (givens_mean s zero_of calls' given) (λ taken. and_with (call_means s zero_of calls callee taken) go) (λ taken. and_with (call_means s zero_of calls' callee taken) go) (givens_steady given) (λ taken.
-            with_steady more k (call_means s zero_of calls callee taken) (call_means s zero_of calls' callee taken) go go (call_steady callee taken) (λ f.
+            with_steady more k (givens_mean s zero_of calls given) (givens_mean s zero_of calls' given) (λ taken. and_with (call_means s zero_of calls callee true taken) go) (λ taken. and_with (call_means s zero_of calls' callee true taken) go) (givens_steady given) (λ taken.
+            with_steady more k (call_means s zero_of calls callee true taken) (call_means s zero_of calls' callee true taken) go go (call_steady callee true taken) (λ f.
             some_steady more k f.value gives gives (gives_steady more k)))
 
         exprs_steady : (es : Exprs C T) → Steady more k (exprs_mean s zero_of calls es) (exprs_mean s zero_of calls' es)
@@ -207,5 +207,5 @@ module _ (more : List ℕ) (k : ℕ) where
         stat_steady Continue = gives_steady more k Continued
         stat_steady (Run callee given) =
             let go : Finals → Action Flow = λ f. gives Next in
-            with_steady more k (givens_mean s zero_of calls given) (givens_mean s zero_of calls' given) (λ taken. and_with (call_means s zero_of calls callee taken) go) (λ taken. and_with (call_means s zero_of calls' callee taken) go) (givens_steady given) (λ taken.
-            with_steady more k (call_means s zero_of calls callee taken) (call_means s zero_of calls' callee taken) go go (call_steady callee taken) (λ f. gives_steady more k Next))
+            with_steady more k (givens_mean s zero_of calls given) (givens_mean s zero_of calls' given) (λ taken. and_with (call_means s zero_of calls callee false taken) go) (λ taken. and_with (call_means s zero_of calls' callee false taken) go) (givens_steady given) (λ taken.
+            with_steady more k (call_means s zero_of calls callee false taken) (call_means s zero_of calls' callee false taken) go go (call_steady callee false taken) (λ f. gives_steady more k Next))

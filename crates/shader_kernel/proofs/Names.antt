@@ -1,6 +1,6 @@
 -- Programs that are alike up to the names of their functions and types do the same.
-use Rattle.std.proofs.Common.{◌≡◌, ℕ, zero, suc, Bool, true, false, ◌&&◌, List, [], ◌∷◌, ◌++◌, length, Option, Some, None, refl, ap, ◌∙◌}
-use Rattle.std.specs.Prelude.{map}
+use Rattle.std.proofs.Common.{◌≡◌, ℕ, zero, suc, Bool, true, false, not, ◌&&◌, ◌||◌, List, [], ◌∷◌, ◌++◌, length, Option, Some, None, refl, ap, ◌∙◌}
+use Rattle.std.specs.Prelude.{map, nat_eq}
 use Rattle.behavior.specs.Values.{Value, Truth, Word, Whole, NoMore, Found, part}
 use Rattle.behavior.specs.Meanings.{Stuck, Ids}
 use Rattle.behavior.specs.Running.{World, Result, Flow, Next, Returned, outcome}
@@ -78,10 +78,10 @@ module _ {C D T U : Type 0} (AreCallees : C → D → Type 0) (AreTypes : T → 
           ap (λ x. gives (Borrowed x root ns (zero_of t) ∷ ts)) d
           ∙ (ap (λ x. gives (Borrowed v' x ns (zero_of t) ∷ ts)) e ∙ ap (λ x. gives (Borrowed v' root' ns x ∷ ts)) (zero_same t u h))
 
-      module _ (calls : Calls C) (calls' : Calls D) (sound : (c : C) (d : D) → AreCallees c d → (arguments : List Argument) → calls c arguments ≡ calls' d arguments) where
-        call_same : (c : C) (d : D) (taken : List Taken) → AreCallees c d → call_means s zero_of calls c taken ≡ call_means s zero_of' calls' d taken
-        call_same c d taken h =
-            ap (λ (x : World → Result Finals). pay (and_with (λ l w. back_at (x w) l) (λ f. and_with (give_back s taken f.parameters) (λ done. gives f)))) (sound c d h (map argument_of taken))
+      module _ (calls : Calls C) (calls' : Calls D) (sound : (c : C) (d : D) → AreCallees c d → (wanted : Bool) (arguments : List Argument) → calls c wanted arguments ≡ calls' d wanted arguments) where
+        call_same : (c : C) (d : D) (wanted : Bool) (taken : List Taken) → AreCallees c d → call_means s zero_of calls c wanted taken ≡ call_means s zero_of' calls' d wanted taken
+        call_same c d wanted taken h =
+            ap (λ (x : World → Result Finals). pay (and_with (λ l w. back_at (x w) l) (λ f. and_with (give_back s taken f.parameters) (λ done. gives f)))) (sound c d h wanted (map argument_of taken))
 
         mutual
           exprs_alike : (e : Expr C T) (e' : Expr D U) → AlikeExpr AreCallees AreTypes e e' → expr_means s zero_of calls e ≡ expr_means s zero_of' calls' e'
@@ -111,8 +111,8 @@ module _ {C D T U : Type 0} (AreCallees : C → D → Type 0) (AreTypes : T → 
               either_same t (expr_means s zero_of calls a) (expr_means s zero_of' calls' a') (expr_means s zero_of calls b) (expr_means s zero_of' calls' b') (exprs_alike a a' h.2) (exprs_alike b b' h.3)))
           exprs_alike (Call c of gs) (Call c' of' gs') h =
               let go : Finals → Action Value = λ f. with_some f.value gives in
-              with_same (givens_mean s zero_of calls gs) (givens_mean s zero_of' calls' gs') (λ taken. and_with (call_means s zero_of calls c taken) go) (λ taken. and_with (call_means s zero_of' calls' c' taken) go)
-              (givens_alike gs gs' h.2) (λ taken. ap (λ x. and_with x go) (call_same c c' taken h.0))
+              with_same (givens_mean s zero_of calls gs) (givens_mean s zero_of' calls' gs') (λ taken. and_with (call_means s zero_of calls c true taken) go) (λ taken. and_with (call_means s zero_of' calls' c' true taken) go)
+              (givens_alike gs gs' h.2) (λ taken. ap (λ x. and_with x go) (call_same c c' true taken h.0))
           exprs_alike e e' h = absurd h
 
           lists_alike : (es : Exprs C T) (es' : Exprs D U) → AlikeExprs AreCallees AreTypes es es' → exprs_mean s zero_of calls es ≡ exprs_mean s zero_of' calls' es'
@@ -202,8 +202,8 @@ module _ {C D T U : Type 0} (AreCallees : C → D → Type 0) (AreTypes : T → 
           stats_alike Continue Continue h = refl
           stats_alike (Run c gs) (Run c' gs') h =
               let go : Finals → Action Flow = λ f. gives Next in
-              with_same (givens_mean s zero_of calls gs) (givens_mean s zero_of' calls' gs') (λ taken. and_with (call_means s zero_of calls c taken) go) (λ taken. and_with (call_means s zero_of' calls' c' taken) go)
-              (givens_alike gs gs' h.1) (λ taken. ap (λ x. and_with x go) (call_same c c' taken h.0))
+              with_same (givens_mean s zero_of calls gs) (givens_mean s zero_of' calls' gs') (λ taken. and_with (call_means s zero_of calls c false taken) go) (λ taken. and_with (call_means s zero_of' calls' c' false taken) go)
+              (givens_alike gs gs' h.1) (λ taken. ap (λ x. and_with x go) (call_same c c' false taken h.0))
           stats_alike x y h = absurd h
 
   -- ---- functions and programs
@@ -221,7 +221,7 @@ module _ {C D T U : Type 0} (AreCallees : C → D → Type 0) (AreTypes : T → 
   lengths_alike ps qs h = absurd h
 
   module _ (p : Program C T) (q : Program D U) (al : AlikePrograms AreCallees AreTypes p q) (lengths : ℕ → ℕ → ℕ) where
-    bodies_alike : (d : ℕ) (calls : Calls C) (calls' : Calls D) → ((c : C) (c' : D) → AreCallees c c' → (arguments : List Argument) → calls c arguments ≡ calls' c' arguments)
+    bodies_alike : (d : ℕ) (calls : Calls C) (calls' : Calls D) → ((c : C) (c' : D) → AreCallees c c' → (wanted : Bool) (arguments : List Argument) → calls c wanted arguments ≡ calls' c' wanted arguments)
         → (f : Function C T) (g : Function D U) → AlikeFunctions AreCallees AreTypes f g → (given : List Value) → body_means p lengths d calls f given ≡ body_means q lengths d calls' g given
     bodies_alike d calls calls' sound f g h given =
         let stats = ap (λ b. stat_means (record { buffers = b; lengths = lengths }) p.zero_of calls d f.body) al.buffers ∙ stats_alike p.zero_of q.zero_of al.zeros (fixed q lengths) calls calls' sound d f.body g.body h.body in
@@ -229,26 +229,28 @@ module _ {C D T U : Type 0} (AreCallees : C → D → Type 0) (AreTypes : T → 
         ap (λ (x : Action Flow). λ (l : List Value) (w : World). x (given ++ zeros p.zero_of f.locals) w) stats
         ∙ ap (λ (x : List Value). λ (l : List Value) (w : World). stat_means (fixed q lengths) q.zero_of calls' d g.body (given ++ x) w) locals
 
-    functions_alike : (d : ℕ) (calls : Calls C) (calls' : Calls D) → ((c : C) (c' : D) → AreCallees c c' → (arguments : List Argument) → calls c arguments ≡ calls' c' arguments)
-        → (f : Option (Function C T)) (g : Option (Function D U)) → AlikeIfThere AreCallees AreTypes f g → (arguments : List Argument) → function_means p lengths d calls f arguments ≡ function_means q lengths d calls' g arguments
-    functions_alike d calls calls' sound None None h arguments = refl
-    functions_alike d calls calls' sound (Some f) (Some g) h arguments =
+    functions_alike : (d : ℕ) (calls : Calls C) (calls' : Calls D) → ((c : C) (c' : D) → AreCallees c c' → (wanted : Bool) (arguments : List Argument) → calls c wanted arguments ≡ calls' c' wanted arguments)
+        → (f : Option (Function C T)) (g : Option (Function D U)) → AlikeIfThere AreCallees AreTypes f g → (wanted : Bool) (arguments : List Argument) → function_means p lengths d calls f wanted arguments ≡ function_means q lengths d calls' g wanted arguments
+    functions_alike d calls calls' sound None None h wanted arguments = refl
+    functions_alike d calls calls' sound (Some f) (Some g) h wanted arguments =
         let given = map value_of arguments in
-        ap (λ b. λ (w : World). either b (λ l w1. finals f.gives (length f.parameters) (body_means p lengths d calls f given l w1)) (ends Stuck) [] w) (fits_alike f.parameters g.parameters h.parameters arguments)
-        ∙ (ap (λ b. λ (w : World). either (fit g.parameters arguments) (λ l w1. finals b (length f.parameters) (body_means p lengths d calls f given l w1)) (ends Stuck) [] w) h.gives
-        ∙ (ap (λ n. λ (w : World). either (fit g.parameters arguments) (λ l w1. finals g.gives n (body_means p lengths d calls f given l w1)) (ends Stuck) [] w) (lengths_alike f.parameters g.parameters h.parameters)
-        ∙ ap (λ (x : Action Flow). λ (w : World). either (fit g.parameters arguments) (λ l w1. finals g.gives (length g.parameters) (x l w1)) (ends Stuck) [] w) (bodies_alike d calls calls' sound f g h given)))
-    functions_alike d calls calls' sound f g h arguments = absurd h
+        ap (λ b. λ (w : World). either (b && (not wanted || f.gives)) (λ l w1. finals f.gives (length f.parameters) (body_means p lengths d calls f given l w1)) (ends Stuck) [] w) (fits_alike f.parameters g.parameters h.parameters arguments)
+        ∙ (ap (λ b. λ (w : World). either (fit g.parameters arguments && (not wanted || b)) (λ l w1. finals b (length f.parameters) (body_means p lengths d calls f given l w1)) (ends Stuck) [] w) h.gives
+        ∙ (ap (λ n. λ (w : World). either (fit g.parameters arguments && (not wanted || g.gives)) (λ l w1. finals g.gives n (body_means p lengths d calls f given l w1)) (ends Stuck) [] w) (lengths_alike f.parameters g.parameters h.parameters)
+        ∙ ap (λ (x : Action Flow). λ (w : World). either (fit g.parameters arguments && (not wanted || g.gives)) (λ l w1. finals g.gives (length g.parameters) (x l w1)) (ends Stuck) [] w) (bodies_alike d calls calls' sound f g h given)))
+    functions_alike d calls calls' sound f g h wanted arguments = absurd h
 
-    calls_alike : (d : ℕ) (c : C) (c' : D) → AreCallees c c' → (arguments : List Argument) → calls_at p lengths d c arguments ≡ calls_at q lengths d c' arguments
-    calls_alike zero c c' h arguments = refl
-    calls_alike (suc d) c c' h arguments =
-        functions_alike (suc d) (calls_at p lengths d) (calls_at q lengths d) (calls_alike d) (p.function c) (q.function c') (al.functions c c' h) arguments
+    calls_alike : (d : ℕ) (c : C) (c' : D) → AreCallees c c' → (wanted : Bool) (arguments : List Argument) → calls_at p lengths d c wanted arguments ≡ calls_at q lengths d c' wanted arguments
+    calls_alike zero c c' h wanted arguments = refl
+    calls_alike (suc d) c c' h wanted arguments =
+        functions_alike (suc d) (calls_at p lengths d) (calls_at q lengths d) (calls_alike d) (p.function c) (q.function c') (al.functions c c' h) wanted arguments
 
     entries_alike : (n : ℕ) (f : Option (Function C T)) (g : Option (Function D U)) → AlikeIfThere AreCallees AreTypes f g → (given : List Value) (w : World) → entry_means p lengths n f given w ≡ entry_means q lengths n g given w
     entries_alike n None None h given w = refl
     entries_alike n (Some f) (Some g) h given w =
-        ap (λ (x : Action Flow). x [] w) (bodies_alike (suc n) (calls_at p lengths n) (calls_at q lengths n) (calls_alike n) f g h given)
+        ap (λ m. either (nat_eq m (length given)) (body_means p lengths (suc n) (calls_at p lengths n) f given) (ends Stuck) [] w) (lengths_alike f.parameters g.parameters h.parameters)
+        ∙ ap (λ (x : Action Flow). either (nat_eq (length g.parameters) (length given)) x (ends Stuck) [] w)
+        (bodies_alike (suc n) (calls_at p lengths n) (calls_at q lengths n) (calls_alike n) f g h given)
     entries_alike n f g h given w = absurd h
 
   pub means_alike : (p : Program C T) (q : Program D U) → AlikePrograms AreCallees AreTypes p q → (ids : Ids) (lengths : ℕ → ℕ → ℕ) (answers : List ℕ) (n : ℕ) → means p ids lengths answers n ≡ means q ids lengths answers n

@@ -1,13 +1,13 @@
 -- Programs with more to go on.
 use Rattle.std.proofs.Common.{◌≡◌, ◌≢◌, ℕ, zero, suc, ◌+◌, ◌≤◌, inl, inr, ⊎_elim, Bool, true, false, List, [], ◌++◌, length, Option, Some, None, refl, sym, ap, ◌∙◌, subst, arith}
-use Rattle.std.specs.Prelude.{map}
+use Rattle.std.specs.Prelude.{map, nat_eq}
 use Rattle.behavior.specs.Values.{Value}
 use Rattle.behavior.specs.Meanings.{Event, Done, Out, Undefined, Stuck, Outcome, IsPrefix, ReachedBy}
 use Rattle.behavior.specs.Running.{World, Result, Went, Ends, Flow, Next, Broke, Continued, Returned, outcome}
 use Rattle.shader_kernel.specs.Kernel.{Function}
 use Rattle.shader_kernel.specs.Operators.{zeros}
 use Rattle.shader_kernel.specs.Actions.{ends, either, back_at}
-use Rattle.shader_kernel.specs.Meaning.{Argument, Calls, call_with, finals, fit, value_of, Program, fixed, body_means, function_means, calls_at, entry_means, input_values, means}
+use Rattle.shader_kernel.specs.Meaning.{Argument, Calls, call_with, finals, value_of, Program, fixed, body_means, takes, function_means, calls_at, entry_means, input_values, means}
 use Rattle.shader_kernel.specs.Extending.{IsExtended, IsDetermined}
 use Rattle.shader_kernel.proofs.Steady.{prefix_same, events_of, longer, Extended, Steady, ends_steady, either_steady}
 use Rattle.shader_kernel.proofs.Bodies.{stat_steady}
@@ -53,14 +53,14 @@ module _ (more : List ℕ) (k : ℕ) where
 
   -- calls that keep all events and only go on
   pub record CallsSteady {C : Type 0} (calls calls' : Calls C) : Type 0 where
-    pub keeps : (callee : C) (arguments : List Argument) (w : World) → IsPrefix w.events (events_of (calls' callee arguments w))
-    pub extends : (callee : C) (arguments : List Argument) (w : World) → Extended more k (calls callee arguments w) (calls' callee arguments (longer more k w))
+    pub keeps : (callee : C) (wanted : Bool) (arguments : List Argument) (w : World) → IsPrefix w.events (events_of (calls' callee wanted arguments w))
+    pub extends : (callee : C) (wanted : Bool) (arguments : List Argument) (w : World) → Extended more k (calls callee wanted arguments w) (calls' callee wanted arguments (longer more k w))
 
   module _ {C T : Type 0} (p : Program C T) (lengths : ℕ → ℕ → ℕ) where
-    sound_of : (calls calls' : Calls C) → CallsSteady calls calls' → (callee : C) (arguments : List Argument) → Steady more k (call_with (fixed p lengths) p.zero_of calls callee arguments) (call_with (fixed p lengths) p.zero_of calls' callee arguments)
-    sound_of calls calls' s callee arguments = record {
-      keeps = λ l w. back_keeps (calls' callee arguments w) l w.events (s.keeps callee arguments w);
-      extends = λ l w. back_extends (calls callee arguments w) (calls' callee arguments (longer more k w)) l (s.extends callee arguments w);
+    sound_of : (calls calls' : Calls C) → CallsSteady calls calls' → (callee : C) (wanted : Bool) (arguments : List Argument) → Steady more k (call_with (fixed p lengths) p.zero_of calls callee wanted arguments) (call_with (fixed p lengths) p.zero_of calls' callee wanted arguments)
+    sound_of calls calls' s callee wanted arguments = record {
+      keeps = λ l w. back_keeps (calls' callee wanted arguments w) l w.events (s.keeps callee wanted arguments w);
+      extends = λ l w. back_extends (calls callee wanted arguments w) (calls' callee wanted arguments (longer more k w)) l (s.extends callee wanted arguments w);
     }
 
     body_steady : (d d' : ℕ) (calls calls' : Calls C) → d ≤ d' → CallsSteady calls calls' → (f : Function C T) (given : List Value) → Steady more k (body_means p lengths d calls f given) (body_means p lengths d' calls' f given)
@@ -80,39 +80,39 @@ module _ (more : List ℕ) (k : ℕ) where
           extends = λ l w. finals_extend f.gives (length f.parameters) (body_means p lengths d calls f given l w) (body_means p lengths d' calls' f given l (longer more k w)) (body.extends l w);
         }
 
-    fitting_steady : (d d' : ℕ) (calls calls' : Calls C) → d ≤ d' → CallsSteady calls calls' → (f : Function C T) (arguments : List Argument)
+    fitting_steady : (d d' : ℕ) (calls calls' : Calls C) → d ≤ d' → CallsSteady calls calls' → (f : Function C T) (wanted : Bool) (arguments : List Argument)
         → Steady more k
-        (either (fit f.parameters arguments) (λ l w. finals f.gives (length f.parameters) (body_means p lengths d calls f (map value_of arguments) l w)) (ends Stuck))
-        (either (fit f.parameters arguments) (λ l w. finals f.gives (length f.parameters) (body_means p lengths d' calls' f (map value_of arguments) l w)) (ends Stuck))
-    fitting_steady d d' calls calls' le s f arguments =
-        either_steady more k (fit f.parameters arguments)
+        (either (takes p lengths f wanted arguments) (λ l w. finals f.gives (length f.parameters) (body_means p lengths d calls f (map value_of arguments) l w)) (ends Stuck))
+        (either (takes p lengths f wanted arguments) (λ l w. finals f.gives (length f.parameters) (body_means p lengths d' calls' f (map value_of arguments) l w)) (ends Stuck))
+    fitting_steady d d' calls calls' le s f wanted arguments =
+        either_steady more k (takes p lengths f wanted arguments)
         (λ l w. finals f.gives (length f.parameters) (body_means p lengths d calls f (map value_of arguments) l w))
         (λ l w. finals f.gives (length f.parameters) (body_means p lengths d' calls' f (map value_of arguments) l w))
         (ends Stuck) (ends Stuck) (final_steady d d' calls calls' le s f (map value_of arguments)) (ends_steady more k Stuck)
 
-    function_keeps : (d d' : ℕ) (calls calls' : Calls C) → d ≤ d' → CallsSteady calls calls' → (f : Option (Function C T)) (arguments : List Argument) (w : World) → IsPrefix w.events (events_of (function_means p lengths d' calls' f arguments w))
-    function_keeps d d' calls calls' le s None arguments w = prefix_same w.events
-    function_keeps d d' calls calls' le s (Some f) arguments w = (fitting_steady d d' calls calls' le s f arguments).keeps [] w
+    function_keeps : (d d' : ℕ) (calls calls' : Calls C) → d ≤ d' → CallsSteady calls calls' → (f : Option (Function C T)) (wanted : Bool) (arguments : List Argument) (w : World) → IsPrefix w.events (events_of (function_means p lengths d' calls' f wanted arguments w))
+    function_keeps d d' calls calls' le s None wanted arguments w = prefix_same w.events
+    function_keeps d d' calls calls' le s (Some f) wanted arguments w = (fitting_steady d d' calls calls' le s f wanted arguments).keeps [] w
 
-    function_extends : (d d' : ℕ) (calls calls' : Calls C) → d ≤ d' → CallsSteady calls calls' → (f : Option (Function C T)) (arguments : List Argument) (w : World) → Extended more k (function_means p lengths d calls f arguments w) (function_means p lengths d' calls' f arguments (longer more k w))
-    function_extends d d' calls calls' le s None arguments w = refl
-    function_extends d d' calls calls' le s (Some f) arguments w = (fitting_steady d d' calls calls' le s f arguments).extends [] w
+    function_extends : (d d' : ℕ) (calls calls' : Calls C) → d ≤ d' → CallsSteady calls calls' → (f : Option (Function C T)) (wanted : Bool) (arguments : List Argument) (w : World) → Extended more k (function_means p lengths d calls f wanted arguments w) (function_means p lengths d' calls' f wanted arguments (longer more k w))
+    function_extends d d' calls calls' le s None wanted arguments w = refl
+    function_extends d d' calls calls' le s (Some f) wanted arguments w = (fitting_steady d d' calls calls' le s f wanted arguments).extends [] w
 
     -- calls one level deeper
     deeper : (d d' : ℕ) → d ≤ d' → CallsSteady (calls_at p lengths d) (calls_at p lengths d') → CallsSteady (calls_at p lengths (suc d)) (calls_at p lengths (suc d'))
     deeper d d' le s = record {
-      keeps = λ callee arguments w. function_keeps (suc d) (suc d') (calls_at p lengths d) (calls_at p lengths d') (omega (arith, le)) s (p.function callee) arguments w;
-      extends = λ callee arguments w. function_extends (suc d) (suc d') (calls_at p lengths d) (calls_at p lengths d') (omega (arith, le)) s (p.function callee) arguments w;
+      keeps = λ callee wanted arguments w. function_keeps (suc d) (suc d') (calls_at p lengths d) (calls_at p lengths d') (omega (arith, le)) s (p.function callee) wanted arguments w;
+      extends = λ callee wanted arguments w. function_extends (suc d) (suc d') (calls_at p lengths d) (calls_at p lengths d') (omega (arith, le)) s (p.function callee) wanted arguments w;
     }
 
     calls_keep : (d : ℕ) → CallsSteady (calls_at p lengths d) (calls_at p lengths d)
-    calls_keep zero = record { keeps = λ callee arguments w. prefix_same w.events; extends = λ callee arguments w. prefix_same w.events }
+    calls_keep zero = record { keeps = λ callee wanted arguments w. prefix_same w.events; extends = λ callee wanted arguments w. prefix_same w.events }
     calls_keep (suc d) = deeper d d (omega arith) (calls_keep d)
 
     calls_steady : (d d' : ℕ) → d ≤ d' → CallsSteady (calls_at p lengths d) (calls_at p lengths d')
     calls_steady zero d' le = record {
       keeps = (calls_keep d').keeps;
-      extends = λ callee arguments w. (calls_keep d').keeps callee arguments (longer more k w);
+      extends = λ callee wanted arguments w. (calls_keep d').keeps callee wanted arguments (longer more k w);
     }
     calls_steady (suc d) zero le = let no : ⊥ = omega (arith, le) in absurd no
     calls_steady (suc d) (suc d') le = deeper d d' (omega (arith, le)) (calls_steady d d' (omega (arith, le)))
@@ -122,7 +122,10 @@ module _ (more : List ℕ) (k : ℕ) where
     entry_extends : (n : ℕ) (f : Option (Function C T)) (given : List Value) (w : World) → Extended more k (entry_means p lengths n f given w) (entry_means p lengths (n + k) f given (longer more k w))
     entry_extends n None given w = refl
     entry_extends n (Some f) given w =
-        (body_steady (suc n) (suc (n + k)) (calls_at p lengths n) (calls_at p lengths (n + k)) (omega arith) (calls_steady n (n + k) (omega arith)) f given).extends [] w
+        (either_steady more k (nat_eq (length f.parameters) (length given)) (body_means p lengths (suc n) (calls_at p lengths n) f given)
+        (body_means p lengths (suc (n + k)) (calls_at p lengths (n + k)) f given) (ends Stuck) (ends Stuck)
+        (body_steady (suc n) (suc (n + k)) (calls_at p lengths n) (calls_at p lengths (n + k)) (omega arith) (calls_steady n (n + k) (omega arith)) f given)
+        (ends_steady more k Stuck)).extends [] w
 
   events_stay : (r : Result Flow) → events_of r ≡ (outcome r).events
   events_stay (Went Next l w) = refl

@@ -1,5 +1,5 @@
 -- What programs in the kernel mean.
-use Rattle.std.specs.Prelude.{ℕ, zero, suc, ◌+◌, ◌/◌, Bool, true, false, not, ◌&&◌, List, [], ◌∷◌, ◌++◌, length, map, take, Option, Some, None, slice_get}
+use Rattle.std.specs.Prelude.{ℕ, zero, suc, ◌+◌, ◌/◌, Bool, true, false, not, nat_eq, ◌&&◌, ◌||◌, List, [], ◌∷◌, ◌++◌, length, map, take, Option, Some, None, slice_get}
 use Rattle.slang_names.specs.declared.places.Mode.{Mode}
 use Rattle.slang_names.specs.declared.places.Mode.TheVariants as mode
 use Rattle.behavior.specs.Values.{Value, Values, Truth, Word, Whole, NoMore, Then, Way, Found, part, put_part}
@@ -46,7 +46,7 @@ argument_of (Borrowed v root numbers like) = record { lent = true; value = v }
 
 -- what the callees do, with the argument of each parameter
 abbrev pub Calls : Type 0 → Type 0
-Calls C = C → List Argument → World → Result Finals
+Calls C = C → Bool → List Argument → World → Result Finals
 
 -- ---- constants and conversions
 
@@ -130,12 +130,12 @@ module _ (s : Fixed) where
 
   module _ {C T : Type 0} (zero_of : T → Value) (calls : Calls C) where
     -- the call itself is paid for when all is taken; then its body runs, and lent places are written back
-    abbrev pub call_with : C → List Argument → Action Finals
-    call_with callee arguments l w = back_at (calls callee arguments w) l
+    abbrev pub call_with : C → Bool → List Argument → Action Finals
+    call_with callee wanted arguments l w = back_at (calls callee wanted arguments w) l
 
-    abbrev pub call_means : C → List Taken → Action Finals
-    call_means callee taken =
-        pay (and_with (call_with callee (map argument_of taken)) (λ f. and_with (give_back taken f.parameters) (λ done. gives f)))
+    abbrev pub call_means : C → Bool → List Taken → Action Finals
+    call_means callee wanted taken =
+        pay (and_with (call_with callee wanted (map argument_of taken)) (λ f. and_with (give_back taken f.parameters) (λ done. gives f)))
 
     -- parts are evaluated from left to right
     abbrev mutual
@@ -150,7 +150,7 @@ module _ (s : Fixed) where
       expr_means (Short false a b) = and_with (expr_means a) (λ v. with_truth v (λ t. either t (gives v) (expr_means b)))
       expr_means (Choose of test a b) = and_with (expr_means test) (λ v. with_truth v (λ t. either t (expr_means a) (expr_means b)))
       expr_means (Call callee of given) =
-          and_with (givens_mean given) (λ taken. and_with (call_means callee taken) (λ f. with_some f.value gives))
+          and_with (givens_mean given) (λ taken. and_with (call_means callee true taken) (λ f. with_some f.value gives))
 
       pub exprs_mean : Exprs C T → Action (List Value)
       exprs_mean NoExpr = gives []
@@ -187,7 +187,7 @@ module _ (s : Fixed) where
     stat_means d (Give e) = and_with (expr_means e) (λ v. gives (Returned (Some v)))
     stat_means d Break = gives Broke
     stat_means d Continue = gives Continued
-    stat_means d (Run callee given) = and_with (givens_mean given) (λ taken. and_with (call_means callee taken) (λ f. gives Next))
+    stat_means d (Run callee given) = and_with (givens_mean given) (λ taken. and_with (call_means callee false taken) (λ f. gives Next))
 
 -- ---- functions and programs
 
@@ -239,24 +239,30 @@ module _ {C T : Type 0} (p : Program C T) (lengths : ℕ → ℕ → ℕ) where
   abbrev pub body_means : ℕ → Calls C → Function C T → List Value → Action Flow
   body_means d calls f given l w = stat_means (fixed p lengths) p.zero_of calls d f.body (given ++ zeros p.zero_of f.locals) w
 
-  abbrev pub function_means : ℕ → Calls C → Option (Function C T) → List Argument → World → Result Finals
-  function_means d calls None arguments w = Ends w.events Stuck
-  function_means d calls (Some f) arguments w =
-      either (fit f.parameters arguments)
+  -- it is called with what its parameters ask for, and has a result where one is wanted
+  abbrev pub takes : Function C T → Bool → List Argument → Bool
+  takes f wanted arguments = fit f.parameters arguments && (not wanted || f.gives)
+
+  abbrev pub function_means : ℕ → Calls C → Option (Function C T) → Bool → List Argument → World → Result Finals
+  function_means d calls None wanted arguments w = Ends w.events Stuck
+  function_means d calls (Some f) wanted arguments w =
+      either (takes f wanted arguments)
       (λ l w1. finals f.gives (length f.parameters) (body_means d calls f (map value_of arguments) l w1))
       (ends Stuck) [] w
 
   -- calls in calls to a depth, which what can still be paid for never reaches
   abbrev pub calls_at : ℕ → Calls C
-  calls_at zero callee arguments w = Ends w.events Out
-  calls_at (suc d) callee arguments w = function_means (suc d) (calls_at d) (p.function callee) arguments w
+  calls_at zero callee wanted arguments w = Ends w.events Out
+  calls_at (suc d) callee wanted arguments w = function_means (suc d) (calls_at d) (p.function callee) wanted arguments w
 
 abbrev pub input_values : Ids → List (Ids → Value) → List Value
 input_values ids inputs = map (λ f. f ids) inputs
 
+-- the entry has a parameter for each built-in value that it is given
 abbrev pub entry_means : {C T : Type 0} → Program C T → (ℕ → ℕ → ℕ) → ℕ → Option (Function C T) → List Value → World → Result Flow
 entry_means p lengths n None given w = Ends w.events Stuck
-entry_means p lengths n (Some f) given w = body_means p lengths (suc n) (calls_at p lengths n) f given [] w
+entry_means p lengths n (Some f) given w =
+    either (nat_eq (length f.parameters) (length given)) (body_means p lengths (suc n) (calls_at p lengths n) f given) (ends Stuck) [] w
 
 -- what a program does in an invocation, with at most n turns of loops and calls
 abbrev pub means : {C T : Type 0} → Program C T → Meaning
